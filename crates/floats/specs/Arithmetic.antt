@@ -1,0 +1,36 @@
+-- f64's operators as 01 writes its formulas: "every operation rounded once, grouped as written here". Each is the language's own operator at
+-- binary64 under a sign that reads like arithmetic. A comparison is a test: where a NaN stands it is false.
+-- `finite` is the library's (lib.Ieee.Scale): false at a NaN and at both infinities, true at every other value.
+use mathlib.Core.Bool.{Bool}
+use lib.Ieee.{Float, binary64, ofBits, add, sub, mul, div, lt, le}
+
+infixl 70 _⊗_ _⊘_
+infixl 60 _⊕_ _⊖_
+infix 40 _<ᶠ_ _≤ᶠ_ _>ᶠ_ _≥ᶠ_
+abbrev pub _⊕_ : Float → Float → Float
+x ⊕ y = add binary64 x y
+
+abbrev pub _⊖_ : Float → Float → Float
+x ⊖ y = sub binary64 x y
+
+abbrev pub _⊗_ : Float → Float → Float
+x ⊗ y = mul binary64 x y
+
+abbrev pub _⊘_ : Float → Float → Float
+x ⊘ y = div binary64 x y
+
+abbrev pub _<ᶠ_ : Float → Float → Bool
+x <ᶠ y = lt x y
+
+abbrev pub _≤ᶠ_ : Float → Float → Bool
+x ≤ᶠ y = le x y
+
+abbrev pub _>ᶠ_ : Float → Float → Bool
+x >ᶠ y = lt y x
+
+abbrev pub _≥ᶠ_ : Float → Float → Bool
+x ≥ᶠ y = le y x
+
+-- the literal 0.0, which is +0
+abbrev pub 0ᶠ : Float
+0ᶠ = ofBits binary64 0

@@ -1,0 +1,4 @@
+pub mod Bits
+pub mod Vectors
+pub mod PartialSums
+pub mod Determined

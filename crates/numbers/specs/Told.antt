@@ -1,0 +1,25 @@
+-- What each case of an answer tells, in 01's numbers and values.
+use Prim.Native.Nat.{ℕ}
+use mathlib.Core.List.{List}
+use lib.Ieee.{Float}
+use Rattle.numbers.specs.declared.Refusal.{Refusal}
+use Rattle.numbers.specs.declared.Refusal.the-variants.{Lengths, SuppliedNotFinite, ResultNotFinite}
+use Rattle.numbers.specs.declared.DotResult.{DotResult}
+use Rattle.numbers.specs.declared.DotResult.the-variants.{Value, Refused}
+use Rattle.numbers.specs.declared.PointResult.{PointResult}
+use Rattle.numbers.specs.declared.PointResult.the-variants.{Written, Untouched}
+use Rattle.numbers.specs.Numbers.{Answer, value, refused}
+
+abbrev pub numberOf : Refusal → ℕ
+numberOf Lengths = 1
+numberOf SuppliedNotFinite = 2
+numberOf ResultNotFinite = 4
+
+abbrev pub dotTold : DotResult → Answer Float
+dotTold (Value v) = value v
+dotTold (Refused k) = refused (numberOf k)
+
+-- `Written` tells of what the buffer holds now
+abbrev pub pointTold : PointResult → List Float → Answer (List Float)
+pointTold Written held = value held
+pointTold (Untouched k) held = refused (numberOf k)

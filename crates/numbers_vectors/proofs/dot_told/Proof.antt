@@ -1,0 +1,21 @@
+-- `numbers_vectors::dot_told` meets its contract. Assumes nothing.
+use borrow.Author.Needs.{needs}
+use mathlib.Core.Path.{sym}
+use native.Mathlib.Omega.{arith}
+use lib.Seq.{length-take-le}
+use Rattle.numbers_vectors.proofs.dot_told.Statement.{statement}
+use Rattle.numbers_vectors.proofs.dot_told.Tie as tie
+
+pub dot-told-spec : {M : Type 1} → statement M
+dot-told-spec =
+    tie.close
+    (tie.spec
+    (λ c. sym (length-take-le _ _ (omega arith)))
+    (λ c. sym (length-take-le _ _ (omega arith)))
+    (λ c κs. search needs)
+    (λ c. search needs)
+    (λ c κs. search needs)
+    (λ c. search needs)
+    (λ c κs. search needs)
+    (λ c. search needs)
+    (λ c. search needs))
