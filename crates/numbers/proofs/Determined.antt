@@ -10,7 +10,7 @@ use Rattle.numbers.specs.declared.PointResult.{PointResult}
 use Rattle.numbers.specs.declared.PointResult.the-variants.{Written, Untouched}
 use lib.Ieee.{Float}
 use Prim.Native.Nat.{ℕ}
-use Rattle.numbers.specs.Numbers.{Answer, value, refused}
+use Rattle.numbers.specs.Answers.{Answer, value, refused}
 use Rattle.numbers.specs.Told.{numberOf, dotTold, pointTold}
 
 same-number : (k l : Refusal) → numberOf k ≡ numberOf l → k ≡ l

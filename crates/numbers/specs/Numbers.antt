@@ -1,30 +1,20 @@
 -- 01, "Number rules", with the refusals 1, 2 and 4 as the table "Numbers in, numbers refused" gives them to vectors.
 -- A finite number is neither a NaN nor an infinity: `finite` of lib.Ieee.Scale, which is false at `nan` and `inf` and true at every other float.
 use Prim.Native.Nat.{ℕ}
-use mathlib.Core.Bool.{Bool, true, false, cond, _&&_}
+use mathlib.Core.Bool.{Bool, true, false, _&&_}
 use mathlib.Core.List.{List, [], _∷_, zipWith, foldl}
 use lib.ListN.{length}
 use lib.Dec.{leb, eqb}
 use lib.Ieee.{Float, nan, inf, fin}
 use lib.Ieee.Scale.{finite}
 use Rattle.floats.specs.Arithmetic.{_⊕_, _⊗_, 0ᶠ}
+use Rattle.numbers.specs.Answers.{Answer, value, refused, unless_refuse_else_}
 
 -- 01: "Absolute value clears the sign bit." A NaN stays a NaN, and -0.0 gives +0.0.
 abbrev pub absOf : Float → Float
 absOf nan = nan
 absOf (inf s) = inf false
 absOf (fin s m e) = fin false m e
-
--- ---- answers: a value, or a refusal by its number
-
-pub data Answer (A : Type 0) : Type 0 where
-  value : A → Answer A
-  refused : ℕ → Answer A
-
--- 01, "Order": the first of the tests that fails gives its number, and what stands behind it is not looked at.
-infixr 20 unless_refuse_else_
-abbrev pub unless_refuse_else_ : {A : Type 0} → Bool → ℕ → Answer A → Answer A
-unless ok refuse n else a = cond ok a (refused n)
 
 -- 01: "Vectors have n elements, 1 <= n <= 256."
 abbrev pub sized : ℕ → Bool

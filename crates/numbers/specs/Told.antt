@@ -8,7 +8,7 @@ use Rattle.numbers.specs.declared.DotResult.{DotResult}
 use Rattle.numbers.specs.declared.DotResult.the-variants.{Value, Refused}
 use Rattle.numbers.specs.declared.PointResult.{PointResult}
 use Rattle.numbers.specs.declared.PointResult.the-variants.{Written, Untouched}
-use Rattle.numbers.specs.Numbers.{Answer, value, refused}
+use Rattle.numbers.specs.Answers.{Answer, value, refused}
 
 abbrev pub numberOf : Refusal → ℕ
 numberOf Lengths = 1
