@@ -31,6 +31,15 @@ x >ᶠ y = lt y x
 abbrev pub _≥ᶠ_ : Float → Float → Bool
 x ≥ᶠ y = le y x
 
--- the literal 0.0, which is +0
+-- the literals of 01's rules: 0.0, which is +0, and 0.5, 1.0 and 2.0
 abbrev pub 0ᶠ : Float
 0ᶠ = ofBits binary64 0
+
+abbrev pub ½ᶠ : Float
+½ᶠ = ofBits binary64 0x3fe0_0000_0000_0000
+
+abbrev pub 1ᶠ : Float
+1ᶠ = ofBits binary64 0x3ff0_0000_0000_0000
+
+abbrev pub 2ᶠ : Float
+2ᶠ = ofBits binary64 0x4000_0000_0000_0000

@@ -1,41 +1,53 @@
--- 01, "How tight the contracts are": any two results that a contract allows are identical. The contracts of `is_finite`, `abs` and `number` give
--- the result itself; those of `dot` and `point` give what is told of it, and what is told tells the answer. Assumes nothing.
-use mathlib.Core.Path.{_≡_, refl, ap}
+-- 01, "How tight the contracts are": any two results that a contract allows are identical. A contract that gives the result itself does that; one that
+-- gives what is told of the result does it where the result can be read back from what is told (`determined`). Assumes nothing.
+use mathlib.Core.Path.{_≡_, refl, sym, ap, _∙_}
+use mathlib.Core.Bool.{cond}
 use mathlib.Core.List.{List}
+use Prim.Native.Nat.{ℕ}
+use lib.Dec.{eqb}
+use lib.Ieee.{Float}
 use Rattle.numbers.specs.declared.Refusal.{Refusal}
 use Rattle.numbers.specs.declared.Refusal.the-variants.{Lengths, SuppliedNotFinite, ResultNotFinite}
 use Rattle.numbers.specs.declared.DotResult.{DotResult}
 use Rattle.numbers.specs.declared.DotResult.the-variants.{Value, Refused}
 use Rattle.numbers.specs.declared.PointResult.{PointResult}
 use Rattle.numbers.specs.declared.PointResult.the-variants.{Written, Untouched}
-use lib.Ieee.{Float}
-use Prim.Native.Nat.{ℕ}
 use Rattle.numbers.specs.Answers.{Answer, value, refused}
 use Rattle.numbers.specs.Told.{numberOf, dotTold, pointTold}
 
-same-number : (k l : Refusal) → numberOf k ≡ numberOf l → k ≡ l
-same-number Lengths Lengths e = refl
-same-number SuppliedNotFinite SuppliedNotFinite e = refl
-same-number ResultNotFinite ResultNotFinite e = refl
-same-number Lengths SuppliedNotFinite e = cc
-same-number Lengths ResultNotFinite e = cc
-same-number SuppliedNotFinite Lengths e = cc
-same-number SuppliedNotFinite ResultNotFinite e = cc
-same-number ResultNotFinite Lengths e = cc
-same-number ResultNotFinite SuppliedNotFinite e = cc
+pub determined : {A T : Type 0} (told : A → T) (read : T → A) → ((a : A) → read (told a) ≡ a) → (r q : A) → told r ≡ told q → r ≡ q
+determined told read back r q e = sym (back r) ∙ ap read e ∙ back q
+
+-- ---- dot and point
+withNumber : ℕ → Refusal
+withNumber n = cond (eqb n 1) Lengths (cond (eqb n 2) SuppliedNotFinite ResultNotFinite)
+
+number-back : (k : Refusal) → withNumber (numberOf k) ≡ k
+unfolding withNumber
+number-back Lengths = refl
+number-back SuppliedNotFinite = refl
+number-back ResultNotFinite = refl
+
+read-dot : Answer Float → DotResult
+read-dot (value v) = Value v
+read-dot (refused n) = Refused (withNumber n)
+
+read-point : Answer (List Float) → PointResult
+read-point (value p) = Written
+read-point (refused n) = Untouched (withNumber n)
+
+dot-back : (r : DotResult) → read-dot (dotTold r) ≡ r
+unfolding read-dot
+dot-back (Value v) = refl
+dot-back (Refused k) = ap Refused (number-back k)
+
+point-back : (held : List Float) (r : PointResult) → read-point (pointTold r held) ≡ r
+unfolding read-point
+point-back held Written = refl
+point-back held (Untouched k) = ap Untouched (number-back k)
 
 pub dot-determined : (r q : DotResult) → dotTold r ≡ dotTold q → r ≡ q
-dot-determined (Value v) (Value w) e = cc
-dot-determined (Value v) (Refused l) e = cc
-dot-determined (Refused k) (Value w) e = cc
-dot-determined (Refused k) (Refused l) e =
-    let n : numberOf k ≡ numberOf l = cc in
-    ap Refused (same-number k l n)
+dot-determined = determined dotTold read-dot dot-back
 
-pub point-determined : (r q : PointResult) (held : List Float) → pointTold r held ≡ pointTold q held → r ≡ q
-point-determined Written Written held e = refl
-point-determined Written (Untouched l) held e = cc
-point-determined (Untouched k) Written held e = cc
-point-determined (Untouched k) (Untouched l) held e =
-    let n : numberOf k ≡ numberOf l = cc in
-    ap Untouched (same-number k l n)
+pub point-determined : (held : List Float) (r q : PointResult) → pointTold r held ≡ pointTold q held → r ≡ q
+point-determined held = determined (λ r. pointTold r held) read-point (point-back held)

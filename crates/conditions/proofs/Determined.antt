@@ -1,0 +1,21 @@
+-- Any two answers that `checked`'s contract allows are identical. The other contracts give the result itself. Assumes nothing.
+use mathlib.Core.Path.{_≡_, refl, ap}
+use Rattle.numbers.specs.Answers.{Answer, value, refused}
+use Rattle.numbers.proofs.Determined.{determined}
+use Rattle.outcomes.proofs.Determined.{withNumber, number-back}
+use Rattle.conditions.specs.declared.Condition.{Condition}
+use Rattle.conditions.specs.declared.Checked.{Checked}
+use Rattle.conditions.specs.declared.Checked.the-variants.{Fit, Unfit}
+use Rattle.conditions.specs.Told.{checkedTold}
+
+read : Answer Condition → Checked
+read (value c) = Fit c
+read (refused n) = Unfit (withNumber n)
+
+back : (r : Checked) → read (checkedTold r) ≡ r
+unfolding read
+back (Fit c) = refl
+back (Unfit k) = ap Unfit (number-back k)
+
+pub checked-determined : (r q : Checked) → checkedTold r ≡ checkedTold q → r ≡ q
+checked-determined = determined checkedTold read back

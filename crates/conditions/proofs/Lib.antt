@@ -1,0 +1,2 @@
+pub mod MarkedSums
+pub mod Determined

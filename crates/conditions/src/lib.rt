@@ -1,0 +1,103 @@
+// The four conditions that a step can be held to, each with its constants (argmin's condition/armijo.rs, goldstein.rs, wolfe.rs,
+// strongwolfe.rs).
+
+use outcomes::Refusal;
+ghost use mathlib.Core.Path.{_≡_};
+ghost use Rattle.conditions.specs.Conditions.{constantsFinite, bothFinite, inRange, checkedOf, needsSlope, answerFinite, holdsOf};
+ghost use Rattle.conditions.specs.Told.{checkedTold};
+
+pub enum Condition {
+    Armijo { c: f64 },
+    Goldstein { c: f64 },
+    Wolfe { c1: f64, c2: f64 },
+    StrongWolfe { c1: f64, c2: f64 },
+}
+
+// A condition whose constants are in their ranges, or why not.
+pub enum Checked {
+    Fit(Condition),
+    Unfit(Refusal),
+}
+
+fn both_finite(x: f64, y: f64) -> bool
+    ensures { λ r. ⌜ r ≡ bothFinite x y ⌝ }
+{
+    numbers::is_finite(x) & numbers::is_finite(y)
+}
+
+impl Condition {
+    pub fn constants_finite(self) -> bool
+        ensures { λ r. ⌜ r ≡ constantsFinite self ⌝ }
+    {
+        match self {
+            Condition::Armijo { c } => numbers::is_finite(c),
+            Condition::Goldstein { c } => numbers::is_finite(c),
+            Condition::Wolfe { c1, c2 } => both_finite(c1, c2),
+            Condition::StrongWolfe { c1, c2 } => both_finite(c1, c2),
+        }
+    }
+
+    pub fn in_range(self) -> bool
+        ensures { λ r. ⌜ r ≡ inRange self ⌝ }
+    {
+        match self {
+            Condition::Armijo { c } => (0.0 < c) & (c < 1.0),
+            Condition::Goldstein { c } => (0.0 < c) & (c < 0.5),
+            Condition::Wolfe { c1, c2 } => (0.0 < c1) & (c1 < c2) & (c2 < 1.0),
+            Condition::StrongWolfe { c1, c2 } => (0.0 < c1) & (c1 < c2) & (c2 < 1.0),
+        }
+    }
+
+    pub fn checked(self) -> Checked
+        ensures { λ r. ⌜ checkedTold r ≡ checkedOf self ⌝ }
+    {
+        if !self.constants_finite() {
+            return Checked::Unfit(Refusal::SuppliedNotFinite);
+        }
+        if !self.in_range() {
+            return Checked::Unfit(Refusal::OutOfRange);
+        }
+        Checked::Fit(self)
+    }
+
+    pub fn needs_slope(self) -> bool
+        ensures { λ r. ⌜ r ≡ needsSlope self ⌝ }
+    {
+        match self {
+            Condition::Armijo { c: _ } => false,
+            Condition::Goldstein { c: _ } => false,
+            Condition::Wolfe { c1: _, c2: _ } => true,
+            Condition::StrongWolfe { c1: _, c2: _ } => true,
+        }
+    }
+
+    // Whether those numbers of an answer are finite that the condition needs.
+    pub fn answer_finite(self, f: f64, s: f64) -> bool
+        ensures { λ r. ⌜ r ≡ answerFinite self f s ⌝ }
+    {
+        if self.needs_slope() {
+            both_finite(f, s)
+        } else {
+            numbers::is_finite(f)
+        }
+    }
+
+    // Whether the step t with cost f and slope s meets the condition, for a search that starts at cost f0 and slope s0.
+    pub fn holds(self, f0: f64, s0: f64, t: f64, f: f64, s: f64) -> bool
+        ensures { λ r. ⌜ r ≡ holdsOf self f0 s0 t f s ⌝ }
+    {
+        match self {
+            Condition::Armijo { c } => f <= f0 + (c * t) * s0,
+            Condition::Goldstein { c } => {
+                let m = t * s0;
+                (f0 + (1.0 - c) * m <= f) & (f <= f0 + c * m)
+            }
+            Condition::Wolfe { c1, c2 } => (f <= f0 + (c1 * t) * s0) & (s >= c2 * s0),
+            Condition::StrongWolfe { c1, c2 } => {
+                let low = numbers::abs(s);
+                let high = numbers::abs(s0);
+                (f <= f0 + (c1 * t) * s0) & (low <= c2 * high)
+            }
+        }
+    }
+}

@@ -1,0 +1,73 @@
+-- From one answer to any list: a machine each of whose steps is the rules' step tells what the rules tell, reports what they report, and counts what
+-- they accept, for every list of answers. Once for every search. Assumes nothing.
+use mathlib.Core.Path.{_≡_, refl, sym, ap, ap₂, _∙_}
+use mathlib.Core.Bool.{Bool}
+use mathlib.Core.List.{List, [], _∷_}
+use Prim.Native.Nat.{ℕ, _+_, _<_}
+use native.Mathlib.Omega.{arith}
+use lib.Ieee.{Float}
+use Rattle.outcomes.specs.Outcomes.{Told}
+use Rattle.outcomes.specs.Asking.{Run, ask, end, Search, Reply, respond, shown, reported, rest, outcomes, after, accepted, reached, played}
+
+module _ {K : Type 0} where
+  responds : (r : Search K) (f g : Float) → respond (rest r) f g ≡ respond r f g
+  unfolding respond rest
+  responds (ask k x then) f g = refl
+  responds (end o) f g = refl
+
+  same-outcomes : (r : Search K) (ys : List Reply) → outcomes (rest r) ys ≡ outcomes r ys
+  unfolding outcomes
+  same-outcomes r [] = refl
+  same-outcomes r (y ∷ ys) = ap (λ (q : Search K). shown q ∷ outcomes q ys) (responds r (y .0) (y .1))
+
+  same-report : (r : Search K) (ys : List Reply) → reported (after (rest r) ys) ≡ reported (after r ys)
+  unfolding after reported rest
+  same-report (ask k x then) [] = refl
+  same-report (end o) [] = refl
+  same-report r (y ∷ ys) = ap (λ (q : Search K). reported (after q ys)) (responds r (y .0) (y .1))
+
+  same-accepted : (finite : Float → Float → Bool) (r : Search K) (ys : List Reply) → accepted finite (rest r) ys ≡ accepted finite r ys
+  unfolding accepted rest
+  same-accepted finite (ask k x then) ys = refl
+  same-accepted finite (end o) [] = refl
+  same-accepted finite (end o) (y ∷ ys) = refl
+
+-- `Fit` is what a state has to meet for its steps to be the rules', and what its steps keep
+module _ {S K : Type 0} (meant : S → Search K) (next : S → Float → Float → S) (says : S → Float → Float → Told) (Fit : S → Type 0)
+    (fit-next : (s : S) → Fit s → (f g : Float) → Fit (next s f g))
+    (leaves : (s : S) → Fit s → (f g : Float) → meant (next s f g) ≡ rest (respond (meant s) f g))
+    (tells : (s : S) → Fit s → (f g : Float) → says s f g ≡ shown (respond (meant s) f g)) where
+  pub plays : (s : S) → Fit s → (ys : List Reply) → played next says s ys ≡ outcomes (meant s) ys
+  unfolding played outcomes
+  plays s v [] = refl
+  plays s v (y ∷ ys) =
+      ap₂ _∷_ (tells s v (y .0) (y .1))
+      (plays (next s (y .0) (y .1)) (fit-next s v (y .0) (y .1)) ys ∙ ap (λ (r : Search K). outcomes r ys) (leaves s v (y .0) (y .1)) ∙ same-outcomes (respond (meant s) (y .0) (y .1)) ys)
+
+  pub reports : (s : S) → Fit s → (ys : List Reply) → reported (meant (reached next s ys)) ≡ reported (after (meant s) ys)
+  unfolding reached after
+  reports s v [] = refl
+  reports s v (y ∷ ys) =
+      reports (next s (y .0) (y .1)) (fit-next s v (y .0) (y .1)) ys
+      ∙ ap (λ (r : Search K). reported (after r ys)) (leaves s v (y .0) (y .1))
+      ∙ same-report (respond (meant s) (y .0) (y .1)) ys
+
+  -- a counter that each accepted answer raises by one, as long as it is below the largest u32
+  module _ (finite : Float → Float → Bool) (count : S → ℕ)
+      (adds : (s : S) → Fit s → (f g : Float) (ys : List Reply) → count s < 4294967295
+      → count (next s f g) + accepted finite (respond (meant s) f g) ys ≡ count s + accepted finite (meant s) ((f, g) ∷ ys)) where
+    none : (r : Search K) → accepted finite r [] ≡ 0
+    unfolding accepted
+    none r = refl
+
+    pub counts : (s : S) → Fit s → (ys : List Reply) → count s + accepted finite (meant s) ys < 4294967295
+        → count (reached next s ys) ≡ count s + accepted finite (meant s) ys
+    unfolding reached
+    counts s v [] h = let z : accepted finite (meant s) [] ≡ 0 = none (meant s) in omega arith
+    counts s v (y ∷ ys) h =
+        let n = next s (y .0) (y .1) in
+        let a : count n + accepted finite (respond (meant s) (y .0) (y .1)) ys ≡ count s + accepted finite (meant s) (y ∷ ys) = adds s v (y .0) (y .1) ys (omega arith) in
+        let m : accepted finite (meant n) ys ≡ accepted finite (respond (meant s) (y .0) (y .1)) ys =
+        ap (λ (r : Search K). accepted finite r ys) (leaves s v (y .0) (y .1)) ∙ same-accepted finite (respond (meant s) (y .0) (y .1)) ys in
+        let i = counts n (fit-next s v (y .0) (y .1)) ys (omega arith) in
+        omega arith

@@ -1,0 +1,17 @@
+-- `outcomes::one_more` meets its contract. Assumes nothing.
+use borrow.Author.Needs.{needs}
+use Rattle.outcomes.specs.Counters.{counted}
+use Rattle.outcomes.proofs.Branches.{tests}
+use Rattle.outcomes.proofs.one_more.Statement.{statement}
+use Rattle.outcomes.proofs.one_more.Tie as tie
+
+returns : tie.Need-returns
+unfolding counted
+returns c = search tests
+
+returns-2 : tie.Need-returns-2
+unfolding counted
+returns-2 c = search tests
+
+pub one-more-spec : {M : Type 1} → statement M
+one-more-spec = tie.close (tie.spec (λ c. search needs) returns returns-2)

@@ -1,0 +1,82 @@
+-- 01, "What changes shape": "the search hands out a request and is given the answer .. One ask covers cost and slope." The rules of a search are
+-- written as a run: it asks for cost and slope at a step and goes on by the answer, until it has a result.
+use Prim.Native.Nat.{ℕ, _+_}
+use mathlib.Core.Bool.{Bool, true, false, cond}
+use mathlib.Core.List.{List, [], _∷_}
+use lib.Ieee.{Float}
+use Rattle.outcomes.specs.Outcomes.{Ending, refusal, Told, asks, ends}
+
+-- K is what is reported while an answer is awaited, R what the run comes to
+pub data Run (K R : Type 0) : Type 0 where
+  ask : K → Float → (Float → Float → Run K R) → Run K R
+  end : R → Run K R
+
+-- a whole search: at its end it keeps what it then reports, and says how it ended
+pub record Over (K : Type 0) : Type 0 where
+  pub keeps : K
+  pub by : Ending
+
+abbrev pub Search : Type 0 → Type 0
+Search K = Run K (Over K)
+
+abbrev pub over : {K : Type 0} → K → Ending → Search K
+over k e = end (record { keeps = k; by = e })
+
+-- an answer: cost and slope
+abbrev pub Reply : Type 0
+Reply = Float × Float
+
+module _ {K : Type 0} where
+  -- 01, refusal 8: whatever is said to a search that is over changes nothing
+  unfoldable pub respond : Search K → Float → Float → Search K
+  respond (ask k x then) f g = then f g
+  respond (end o) f g = over (o .keeps) (refusal 8)
+
+  -- what a search tells when it has come here, and what it reports
+  unfoldable pub shown : Search K → Told
+  shown (ask k x then) = asks x
+  shown (end o) = ends (o .by)
+
+  unfoldable pub reported : Search K → K
+  reported (ask k x then) = k
+  reported (end o) = o .keeps
+
+  unfoldable pub isOver : Search K → Bool
+  isOver (ask k x then) = false
+  isOver (end o) = true
+
+  -- what is left of a search once it has told its outcome: where it ended, it refuses whatever is said to it (8)
+  unfoldable pub rest : Search K → Search K
+  rest (ask k x then) = ask k x then
+  rest (end o) = over (o .keeps) (refusal 8)
+
+  -- ---- for any list of answers: what they bring, where they lead, and how many of them are accepted
+
+  unfoldable pub outcomes : Search K → List Reply → List Told
+  outcomes r [] = []
+  outcomes r (y ∷ ys) = shown (respond r (y .0) (y .1)) ∷ outcomes (respond r (y .0) (y .1)) ys
+
+  unfoldable pub after : Search K → List Reply → Search K
+  after r [] = r
+  after r (y ∷ ys) = after (respond r (y .0) (y .1)) ys
+
+  -- 01: "Evaluations count every finite answer accepted": those given while the search asks, of which the test says that they are finite
+  unfoldable pub accepted : (Float → Float → Bool) → Search K → List Reply → ℕ
+  accepted finite r [] = 0
+  accepted finite (end o) (y ∷ ys) = 0
+  accepted finite (ask k x then) (y ∷ ys) = cond (finite (y .0) (y .1)) 1 0 + accepted finite (then (y .0) (y .1)) ys
+
+-- 01, refusal 2: a step is asked; an answer that is not finite, by the search's test, is refused
+module _ {K R : Type 0} (finite : Float → Float → Bool) (refuse : ℕ → R) (k : K) where
+  abbrev pub question : Float → (Float → Float → Run K R) → Run K R
+  question x then = ask k x (λ f g. cond (finite f g) (then f g) (end (refuse 2)))
+
+-- ---- a machine with states S, of which `next` gives the next state and `says` what is told: the same for any list of answers
+module _ {S : Type 0} (next : S → Float → Float → S) where
+  unfoldable pub reached : S → List Reply → S
+  reached s [] = s
+  reached s (y ∷ ys) = reached (next s (y .0) (y .1)) ys
+
+  unfoldable pub played : (S → Float → Float → Told) → S → List Reply → List Told
+  played says s [] = []
+  played says s (y ∷ ys) = says s (y .0) (y .1) ∷ played says (next s (y .0) (y .1)) ys

@@ -1,0 +1,16 @@
+-- The machines' counters: bookkeeping, which nobody needs to check 01. They count up and stop at the largest u32; for each search a theorem says
+-- that no search that was started gets there.
+use Prim.Native.Nat.{ℕ, _+_}
+use mathlib.Core.Bool.{cond}
+use lib.Dec.{ltb}
+use Rattle.outcomes.specs.declared.Evaluations.{Evaluations}
+use Rattle.outcomes.specs.declared.Iterations.{Iterations}
+
+unfoldable pub counted : ℕ → ℕ
+counted n = cond (ltb n 4294967295) (n + 1) n
+
+abbrev pub evaluations : ℕ → Evaluations
+evaluations n = record { 0 = n }
+
+abbrev pub iterations : ℕ → Iterations
+iterations n = record { 0 = n }
