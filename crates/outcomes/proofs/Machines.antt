@@ -1,7 +1,7 @@
 -- From one answer to any list: a machine each of whose steps is the rules' step tells what the rules tell, reports what they report, and counts what
 -- they accept, for every list of answers. Once for every search. Assumes nothing.
 use mathlib.Core.Path.{_≡_, refl, sym, ap, ap₂, _∙_}
-use mathlib.Core.Bool.{Bool}
+use mathlib.Core.Bool.{Bool, true, false, cond}
 use mathlib.Core.List.{List, [], _∷_}
 use Prim.Native.Nat.{ℕ, _+_, _<_}
 use native.Mathlib.Omega.{arith}
@@ -32,6 +32,20 @@ module _ {K : Type 0} where
   same-accepted finite (end o) [] = refl
   same-accepted finite (end o) (y ∷ ys) = refl
 
+-- ---- one step: what the machine comes to, its next state's meaning and what it tells, against what the rules come to
+abbrev pub Seen : Type 0 → Type 0
+Seen K = Search K × Told
+
+module _ {K : Type 0} where
+  unfoldable pub seen : Search K → Seen K
+  seen r = (rest r, shown r)
+
+  -- a choice means the choice of what each means
+  pub picks : {A : Type 0} (d : A → Seen K) (b : Bool) (x y : A) (m n : Search K) → d x ≡ seen m → d y ≡ seen n → d (cond b x y) ≡ seen (cond b m n)
+  picks d true x y m n p q = p
+  picks d false x y m n p q = q
+
+-- ---- any list of answers
 -- `Fit` is what a state has to meet for its steps to be the rules', and what its steps keep
 module _ {S K : Type 0} (meant : S → Search K) (next : S → Float → Float → S) (says : S → Float → Float → Told) (Fit : S → Type 0)
     (fit-next : (s : S) → Fit s → (f g : Float) → Fit (next s f g))

@@ -22,6 +22,10 @@ Search K = Run K (Over K)
 abbrev pub over : {K : Type 0} → K → Ending → Search K
 over k e = end (record { keeps = k; by = e })
 
+-- a refusal that leaves what is reported as it was
+abbrev pub leaving : {K : Type 0} → K → ℕ → Over K
+leaving k n = record { keeps = k; by = refusal n }
+
 -- an answer: cost and slope
 abbrev pub Reply : Type 0
 Reply = Float × Float

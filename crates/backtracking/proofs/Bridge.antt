@@ -1,0 +1,112 @@
+-- One answer to the machine is one answer to 01's rules: what the next state stands for is what the rules leave, and what is told is what they tell.
+-- Assumes nothing of the state but that its limit is a u32.
+use mathlib.Core.Path.{_≡_, refl, sym, ap, _∙_, subst}
+use mathlib.Core.Bool.{Bool, true, false, cond}
+use Prim.Native.Nat.{ℕ, zero, suc, _+_, _-_, _<_}
+use native.Mathlib.Omega.{arith}
+use lib.Dec.{leb, ltb}
+use lib.Ieee.{Float}
+use borrow.Author.Tests.{le-leb, lt-leb, lt-ltb}
+use Rattle.floats.specs.Arithmetic.{_⊗_}
+use Rattle.numbers.specs.Answers.{Answer, value, refused, unless_refuse_else_}
+use Rattle.outcomes.specs.Outcomes.{stop, limit, refusal, met, asks, told}
+use Rattle.outcomes.specs.Asking.{Search, over, respond, shown, rest}
+use Rattle.outcomes.specs.Counters.{counted, evaluations, iterations}
+use Rattle.outcomes.proofs.Machines.{Seen, seen, picks}
+use Rattle.outcomes.specs.declared.Evaluations.{Evaluations}
+use Rattle.outcomes.specs.declared.Iterations.{Iterations}
+use Rattle.outcomes.specs.declared.Outcome.the-variants.{Ask, Stop, Limit, Refused}
+use Rattle.outcomes.specs.declared.Refusal.the-variants.{SuppliedNotFinite, OutOfRange}
+use Rattle.outcomes.specs.declared.Verdict.the-variants.{Met}
+use Rattle.conditions.specs.Conditions.{answerFinite, holdsOf}
+use Rattle.backtracking.specs.declared.Setup.{Setup}
+use Rattle.backtracking.specs.declared.Stage.{Stage}
+use Rattle.backtracking.specs.declared.Stage.the-variants.{First, Later, Over}
+use Rattle.backtracking.specs.declared.Backtracking.{Backtracking}
+use Rattle.backtracking.specs.declared.Step.{Step}
+use Rattle.backtracking.specs.declared.Started.{Started}
+use Rattle.backtracking.specs.declared.Started.the-variants.{Running, Refused as NoSearch}
+use Rattle.backtracking.specs.Backtracking.{suppliedFinite, inRanges, trials, search}
+use Rattle.backtracking.specs.Machine.{madeOf, triedOf, answerBy, answerOf, startOf}
+use Rattle.backtracking.specs.Meaning.{meaning, meant, startTold, Starts, Follows}
+
+abbrev denote : Step → Seen ℕ
+denote t = (meant (t .search), told (t .outcome))
+
+-- a count below the limit goes up by one
+counts : (n l : ℕ) → l < 4294967296 → n < l → counted n ≡ n + 1
+unfolding counted
+counts n l h k = rw (lt-ltb n 4294967295 (omega arith))
+
+-- a trial that is asked stands as it is, and tells its step
+asked : (s : Setup) (k before now : ℕ) (t : Float) → seen (trials s k before now t) ≡ (trials s k before now t, asks t)
+unfolding trials seen rest shown
+asked s zero before now t = refl
+asked s (suc k) before now t = refl
+
+module _ (s : Setup) (fits : s .limit < 4294967296) (m : Evaluations) (now : Iterations) (t : Float) where
+  -- what follows a trial that did not meet the condition, while k trials may follow
+  further : ℕ → Search ℕ
+  further zero = over (now .0) (limit t)
+  further (suc k) = trials s k (now .0) (now .0 + 1) (t ⊗ s .rho)
+
+  goes-on : (k : ℕ) → s .limit - now .0 ≡ k
+      → denote (cond (leb (s .limit) (now .0)) (madeOf s m now Over (Limit t)) (madeOf s m now (Later (t ⊗ s .rho)) (Ask (t ⊗ s .rho)))) ≡ seen (further k)
+  unfolding further seen rest shown meaning
+  goes-on zero e = rw (le-leb (s .limit) (now .0) (omega arith))
+  goes-on (suc k) e =
+      let c : counted (now .0) ≡ now .0 + 1 = counts (now .0) (s .limit) fits (omega arith) in
+      let d : s .limit - (now .0 + 1) ≡ k = omega arith in
+      rw (lt-leb (s .limit) (now .0) (omega arith), c, d) (sym (asked s k (now .0) (now .0 + 1) (t ⊗ s .rho)))
+
+  meets : denote (madeOf s m now Over (Stop Met t)) ≡ seen (over (now .0) (stop met t))
+  unfolding seen rest shown meaning
+  meets = refl
+
+  refuses : (n : Evaluations) (before : Iterations) → denote (madeOf s n before Over (Refused SuppliedNotFinite)) ≡ seen (over (before .0) (refusal 2))
+  unfolding seen rest shown meaning
+  refuses n before = refl
+
+  -- one trial
+  tests : (n : Evaluations) (before : Iterations) (f g : Float) (k : ℕ) → s .limit - now .0 ≡ k
+      → denote (cond (answerFinite (s .condition) f g)
+      (cond (holdsOf (s .condition) (s .f0) (s .s0) t f g) (madeOf s m now Over (Stop Met t))
+      (cond (leb (s .limit) (now .0)) (madeOf s m now Over (Limit t)) (madeOf s m now (Later (t ⊗ s .rho)) (Ask (t ⊗ s .rho)))))
+      (madeOf s n before Over (Refused SuppliedNotFinite)))
+      ≡ seen (respond (trials s k (before .0) (now .0) t) f g)
+  unfolding further trials respond
+  tests n before f g zero e =
+      picks denote (answerFinite (s .condition) f g) _ _ _ _
+      (picks denote (holdsOf (s .condition) (s .f0) (s .s0) t f g) _ _ _ _ meets (goes-on zero e))
+      (refuses n before)
+  tests n before f g (suc k) e =
+      picks denote (answerFinite (s .condition) f g) _ _ _ _
+      (picks denote (holdsOf (s .condition) (s .f0) (s .s0) t f g) _ _ _ _ meets (goes-on (suc k) e))
+      (refuses n before)
+
+answers-by : (s : Backtracking) → s .setup .limit < 4294967296 → (f g : Float) (stage : Stage) → s .stage ≡ stage
+    → denote (answerBy s f g stage) ≡ seen (respond (meaning (s .setup) (s .iterations .0) stage) f g)
+unfolding answerBy triedOf meaning
+answers-by s h f g First e = tests (s .setup) h _ (s .iterations) (s .setup .alpha) (s .evaluations) (s .iterations) f g _ refl
+answers-by s h f g (Later t) e = tests (s .setup) h _ (iterations (counted (s .iterations .0))) t (s .evaluations) (s .iterations) f g _ refl
+answers-by s h f g Over e = unfold seen respond rest shown in rw e
+
+-- every answer to every state
+pub answers : (s : Backtracking) → s .setup .limit < 4294967296 → (f g : Float) → denote (answerOf s f g) ≡ seen (respond (meant s) f g)
+answers s h f g = answers-by s h f g (s .stage) refl
+
+pub follows : (s : Backtracking) → s .setup .limit < 4294967296 → (f g : Float) (r : Step) → r ≡ answerOf s f g → Follows s f g r
+unfolding seen
+follows s h f g r e =
+    let z = ap denote e ∙ answers s h f g in
+    record { tells = ap (λ (p : Seen ℕ). p .1) z; leaves = ap (λ (p : Seen ℕ). p .0) z }
+
+-- `start`
+starts-with : (s : Setup) (a b : Bool) → startTold (cond a (cond b (Running (madeOf s (evaluations 0) (iterations 0) First (Ask (s .alpha)))) (NoSearch OutOfRange)) (NoSearch SuppliedNotFinite)) ≡ (unless a refuse 2 else unless b refuse 3 else value (search s))
+unfolding meaning
+starts-with s true true = let e : s .limit - 0 ≡ s .limit = omega arith in rw e
+starts-with s true false = refl
+starts-with s false b = refl
+
+pub starts : (s : Setup) (r : Started) → r ≡ startOf s → Starts s r
+starts s r e = record { as-ruled = ap startTold e ∙ starts-with s (suppliedFinite s) (inRanges s) }

@@ -1,0 +1,55 @@
+-- 01's rules of backtracking: of "Parameters" its two, of "Numbers in, numbers refused" N and the order, and its sentences under "Conditions".
+use Prim.Native.Nat.{ℕ, zero, suc, _+_}
+use mathlib.Core.Bool.{Bool, cond, _&&_}
+use lib.Dec.{leb}
+use lib.Ieee.{Float, binary64, ofBits}
+use lib.Ieee.Scale.{finite}
+use Rattle.floats.specs.Arithmetic.{_⊗_, _<ᶠ_, 0ᶠ, 1ᶠ}
+use Rattle.numbers.specs.Answers.{Answer, value, refused, unless_refuse_else_}
+use Rattle.outcomes.specs.Outcomes.{met, stop, limit}
+use Rattle.outcomes.specs.Asking.{Search, over, leaving, question}
+use Rattle.conditions.specs.declared.Condition.{Condition}
+use Rattle.conditions.specs.Conditions.{constantsFinite, inRange, answerFinite, holdsOf}
+use Rattle.backtracking.specs.declared.Setup.{Setup}
+
+-- ---- 01, "Parameters": "rho 0.9 in (0, 1); alpha 1, > 0"; "iteration limit N is 1 to 10,000 (default 100)"
+
+abbrev pub defaultsOf : Condition → Float → Float → Setup
+defaultsOf C f0 s0 = record {
+  condition = C;
+  rho = ofBits binary64 0x3fec_cccc_cccc_cccd;
+  alpha = 1ᶠ;
+  f0 = f0;
+  s0 = s0;
+  limit = 100;
+}
+
+abbrev pub suppliedFinite : Setup → Bool
+suppliedFinite s = constantsFinite (s .condition) && finite (s .rho) && finite (s .alpha) && finite (s .f0) && finite (s .s0)
+
+abbrev pub inRanges : Setup → Bool
+inRanges s = inRange (s .condition) && 0ᶠ <ᶠ s .rho && s .rho <ᶠ 1ᶠ && 0ᶠ <ᶠ s .alpha && leb 1 (s .limit) && leb (s .limit) 10000
+
+-- ---- "Backtracking asks alpha, tests, then alpha*rho, and so on; each later trial is one iteration."
+
+module _ (s : Setup) where
+  -- A trial at t. Before its answer is accepted `before` iterations are counted, and a refusal keeps that count; with it there are `now`.
+  -- The stop has "the verdict "met" and the step".
+  abbrev tested : ℕ → ℕ → Float → Search ℕ → Search ℕ
+  tested before now t further =
+      question (answerFinite (s .condition)) (leaving before) before t λ f g.
+      cond (holdsOf (s .condition) (s .f0) (s .s0) t f g) (over now (stop met t)) further
+
+  -- n trials may follow this one; "its limit has the last step tested"
+  unfoldable pub trials : ℕ → ℕ → ℕ → Float → Search ℕ
+  trials zero before now t = tested before now t (over now (limit t))
+  trials (suc n) before now t = tested before now t (trials n now (now + 1) (t ⊗ s .rho))
+
+abbrev pub search : Setup → Search ℕ
+search s = trials s (s .limit) 0 0 (s .alpha)
+
+abbrev pub started : Setup → Answer (Search ℕ)
+started s =
+    unless (suppliedFinite s) refuse 2 else
+    unless (inRanges s) refuse 3 else
+    value (search s)

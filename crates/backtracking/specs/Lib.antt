@@ -1,0 +1,3 @@
+pub mod Backtracking
+pub mod Machine
+pub mod Meaning

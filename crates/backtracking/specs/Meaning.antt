@@ -1,0 +1,39 @@
+-- What a state stands for in 01's rules: the search that is left. And what `start` and `answer` promise in the rules' terms.
+use Prim.Native.Nat.{ℕ, _-_}
+use mathlib.Core.Path.{_≡_}
+use lib.Ieee.{Float}
+use Rattle.numbers.specs.Answers.{Answer, value, refused}
+use Rattle.outcomes.specs.Outcomes.{refusal, numberOf, told}
+use Rattle.outcomes.specs.Asking.{Search, over, respond, shown, rest}
+use Rattle.outcomes.specs.Counters.{counted}
+use Rattle.backtracking.specs.declared.Setup.{Setup}
+use Rattle.backtracking.specs.declared.Stage.{Stage}
+use Rattle.backtracking.specs.declared.Stage.the-variants.{First, Later, Over}
+use Rattle.backtracking.specs.declared.Backtracking.{Backtracking}
+use Rattle.backtracking.specs.declared.Step.{Step}
+use Rattle.backtracking.specs.declared.Started.{Started}
+use Rattle.backtracking.specs.declared.Started.the-variants.{Running, Refused as NoSearch}
+use Rattle.backtracking.specs.Backtracking.{trials, started}
+
+unfoldable pub meaning : Setup → ℕ → Stage → Search ℕ
+meaning s i First = trials s (s .limit - i) i i (s .alpha)
+meaning s i (Later t) = trials s (s .limit - counted i) i (counted i) t
+meaning s i Over = over i (refusal 8)
+
+abbrev pub meant : Backtracking → Search ℕ
+meant s = meaning (s .setup) (s .iterations .0) (s .stage)
+
+-- ---- `start`: the refusal's number, or the search that 01's rules are, which has counted nothing
+
+abbrev pub startTold : Started → Answer (Search ℕ)
+startTold (Running r) = value (meant (r .search))
+startTold (NoSearch k) = refused (numberOf k)
+
+pub record Starts (s : Setup) (r : Started) : Type 0 where
+  pub as-ruled : startTold r ≡ started s
+
+-- ---- `answer`: what is told is what the rules tell at this answer, and what is left is what they leave
+
+pub record Follows (s : Backtracking) (f g : Float) (r : Step) : Type 0 where
+  pub tells : told (r .outcome) ≡ shown (respond (meant s) f g)
+  pub leaves : meant (r .search) ≡ rest (respond (meant s) f g)

@@ -1,0 +1,196 @@
+// Backtracking (argmin's backtracking.rs): the step is shrunk until a condition is met. The search hands out a step, and is given cost and
+// slope there.
+
+use conditions::Condition;
+use outcomes::Evaluations;
+use outcomes::Iterations;
+use outcomes::Outcome;
+use outcomes::Refusal;
+use outcomes::Verdict;
+ghost use mathlib.Core.Path.{_≡_};
+ghost use Prim.Native.Nat.{_<_};
+ghost use Rattle.backtracking.specs.Backtracking.{suppliedFinite, inRanges, defaultsOf};
+ghost use Rattle.backtracking.specs.Machine.{startOf, madeOf, triedOf, answerOf};
+ghost use Rattle.backtracking.specs.Meaning.{Starts, Follows};
+
+// What does not change in a search.
+pub struct Setup {
+    pub condition: Condition,
+    // the factor by which a step shrinks
+    pub rho: f64,
+    // the first step
+    pub alpha: f64,
+    // cost and slope at the start
+    pub f0: f64,
+    pub s0: f64,
+    // how many trials may follow the first
+    pub limit: u32,
+}
+
+// What the search waits for: the answer at the first step, at a later one, or nothing any more.
+pub enum Stage {
+    First,
+    Later(f64),
+    Over,
+}
+
+// There is no bracket and no best in it.
+pub struct Backtracking {
+    pub setup: Setup,
+    pub evaluations: Evaluations,
+    pub iterations: Iterations,
+    pub stage: Stage,
+}
+
+pub struct Step {
+    pub search: Backtracking,
+    pub outcome: Outcome,
+}
+
+pub enum Started {
+    Running(Step),
+    Refused(Refusal),
+}
+
+// The setup with argmin's rho and first step, and a limit of 100.
+pub fn defaults(condition: Condition, f0: f64, s0: f64) -> Setup
+    ensures { λ r. ⌜ r ≡ defaultsOf condition f0 s0 ⌝ }
+{
+    Setup {
+        condition,
+        rho: 0.9,
+        alpha: 1.0,
+        f0,
+        s0,
+        limit: 100,
+    }
+}
+
+fn made(
+    setup: Setup,
+    evaluations: Evaluations,
+    iterations: Iterations,
+    stage: Stage,
+    outcome: Outcome,
+) -> Step
+    ensures { λ r. ⌜ r ≡ madeOf setup evaluations iterations stage outcome ⌝ }
+{
+    Step {
+        search: Backtracking {
+            setup,
+            evaluations,
+            iterations,
+            stage,
+        },
+        outcome,
+    }
+}
+
+fn supplied_finite(s: Setup) -> bool
+    ensures { λ r. ⌜ r ≡ suppliedFinite s ⌝ }
+{
+    let condition = s.condition;
+    let constants = condition.constants_finite();
+    let rho = numbers::is_finite(s.rho);
+    let alpha = numbers::is_finite(s.alpha);
+    let f0 = numbers::is_finite(s.f0);
+    let s0 = numbers::is_finite(s.s0);
+    constants & rho & alpha & f0 & s0
+}
+
+fn in_ranges(s: Setup) -> bool
+    ensures { λ r. ⌜ r ≡ inRanges s ⌝ }
+{
+    let condition = s.condition;
+    let constants = condition.in_range();
+    constants
+        & (0.0 < s.rho)
+        & (s.rho < 1.0)
+        & (0.0 < s.alpha)
+        & (1 <= s.limit)
+        & (s.limit <= 10000)
+}
+
+fn begun(s: Setup) -> Started
+    ensures { λ r. ⌜ r ≡ startOf s ⌝ }
+{
+    if !supplied_finite(s) {
+        return Started::Refused(Refusal::SuppliedNotFinite);
+    }
+    if !in_ranges(s) {
+        return Started::Refused(Refusal::OutOfRange);
+    }
+    Started::Running(made(
+        s,
+        Evaluations(0),
+        Iterations(0),
+        Stage::First,
+        Outcome::Ask(s.alpha),
+    ))
+}
+
+// A search that asks the first step, or why there is none.
+pub fn start(s: Setup) -> Started
+    ensures exact { λ r. ⌜ r ≡ startOf s ⌝ }
+    ensures rules { λ r. ⌜ Starts s r ⌝ }
+{
+    begun(s)
+}
+
+// The answer at the step t, before which `before` iterations were counted and with which there are `now`.
+fn tried(
+    s: Setup,
+    n: Evaluations,
+    before: Iterations,
+    now: Iterations,
+    t: f64,
+    f: f64,
+    g: f64,
+) -> Step
+    ensures { λ r. ⌜ r ≡ triedOf s n before now t f g ⌝ }
+{
+    let condition = s.condition;
+    if !condition.answer_finite(f, g) {
+        return made(
+            s,
+            n,
+            before,
+            Stage::Over,
+            Outcome::Refused(Refusal::SuppliedNotFinite),
+        );
+    }
+    let m = n.next();
+    if condition.holds(s.f0, s.s0, t, f, g) {
+        return made(s, m, now, Stage::Over, Outcome::Stop(Verdict::Met, t));
+    }
+    if s.limit <= now.0 {
+        return made(s, m, now, Stage::Over, Outcome::Limit(t));
+    }
+    let shorter = t * s.rho;
+    made(s, m, now, Stage::Later(shorter), Outcome::Ask(shorter))
+}
+
+fn answered(s: Backtracking, f: f64, g: f64) -> Step
+    ensures { λ r. ⌜ r ≡ answerOf s f g ⌝ }
+{
+    let stage = s.stage;
+    let setup = s.setup;
+    let n = s.evaluations;
+    let before = s.iterations;
+    match stage {
+        Stage::First => tried(setup, n, before, before, setup.alpha, f, g),
+        Stage::Later(t) => tried(setup, n, before, before.next(), t, f, g),
+        Stage::Over => Step {
+            search: s,
+            outcome: Outcome::Refused(Refusal::AlreadyOver),
+        },
+    }
+}
+
+// One answer, cost f and slope g: the search with it, and what comes next. It is the step that 01's rules take (the limit is below 2^32, as every u32 is).
+pub fn answer(s: Backtracking, f: f64, g: f64) -> Step
+    ensures exact { λ r. ⌜ r ≡ answerOf s f g ⌝ }
+    ensures rules { λ r. ⌜ (s .setup .limit < 4294967296 → Follows s f g r) ⌝ }
+{
+    answered(s, f, g)
+}
