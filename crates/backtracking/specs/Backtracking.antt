@@ -27,8 +27,14 @@ defaultsOf C f0 s0 = record {
 abbrev pub suppliedFinite : Setup → Bool
 suppliedFinite s = constantsFinite (s .condition) && finite (s .rho) && finite (s .alpha) && finite (s .f0) && finite (s .s0)
 
+abbrev pub limitInRange : ℕ → Bool
+limitInRange n = leb 1 n && leb n 10000
+
+abbrev pub stepsInRange : Setup → Bool
+stepsInRange s = inRange (s .condition) && 0ᶠ <ᶠ s .rho && s .rho <ᶠ 1ᶠ && 0ᶠ <ᶠ s .alpha
+
 abbrev pub inRanges : Setup → Bool
-inRanges s = inRange (s .condition) && 0ᶠ <ᶠ s .rho && s .rho <ᶠ 1ᶠ && 0ᶠ <ᶠ s .alpha && leb 1 (s .limit) && leb (s .limit) 10000
+inRanges s = stepsInRange s && limitInRange (s .limit)
 
 -- ---- "Backtracking asks alpha, tests, then alpha*rho, and so on; each later trial is one iteration."
 

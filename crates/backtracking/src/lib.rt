@@ -103,12 +103,9 @@ fn in_ranges(s: Setup) -> bool
 {
     let condition = s.condition;
     let constants = condition.in_range();
-    constants
-        & (0.0 < s.rho)
-        & (s.rho < 1.0)
-        & (0.0 < s.alpha)
-        & (1 <= s.limit)
-        & (s.limit <= 10000)
+    let steps = constants & (0.0 < s.rho) & (s.rho < 1.0) & (0.0 < s.alpha);
+    let limit = (1 <= s.limit) & (s.limit <= 10000);
+    steps & limit
 }
 
 fn begun(s: Setup) -> Started

@@ -7,7 +7,7 @@ use Prim.Native.Nat.{ℕ, _+_, _<_}
 use native.Mathlib.Omega.{arith}
 use lib.Ieee.{Float}
 use Rattle.outcomes.specs.Outcomes.{Told}
-use Rattle.outcomes.specs.Asking.{Run, ask, end, Search, Reply, respond, shown, reported, rest, outcomes, after, accepted, reached, played}
+use Rattle.outcomes.specs.Asking.{Run, ask, end, Search, Reply, respond, shown, reported, isOver, rest, outcomes, after, accepted, reached, played}
 
 module _ {K : Type 0} where
   responds : (r : Search K) (f g : Float) → respond (rest r) f g ≡ respond r f g
@@ -20,11 +20,21 @@ module _ {K : Type 0} where
   same-outcomes r [] = refl
   same-outcomes r (y ∷ ys) = ap (λ (q : Search K). shown q ∷ outcomes q ys) (responds r (y .0) (y .1))
 
-  same-report : (r : Search K) (ys : List Reply) → reported (after (rest r) ys) ≡ reported (after r ys)
-  unfolding after reported rest
-  same-report (ask k x then) [] = refl
-  same-report (end o) [] = refl
-  same-report r (y ∷ ys) = ap (λ (q : Search K). reported (after q ys)) (responds r (y .0) (y .1))
+  -- anything that does not tell an ended search from one that has told so
+  same-after : {A : Type 0} (h : Search K → A) → ((r : Search K) → h (rest r) ≡ h r) → (r : Search K) (ys : List Reply) → h (after (rest r) ys) ≡ h (after r ys)
+  unfolding after
+  same-after h e r [] = e r
+  same-after h e r (y ∷ ys) = ap (λ (q : Search K). h (after q ys)) (responds r (y .0) (y .1))
+
+  pub report-rests : (r : Search K) → reported (rest r) ≡ reported r
+  unfolding reported rest
+  report-rests (ask k x then) = refl
+  report-rests (end o) = refl
+
+  pub over-rests : (r : Search K) → isOver (rest r) ≡ isOver r
+  unfolding isOver rest
+  over-rests (ask k x then) = refl
+  over-rests (end o) = refl
 
   same-accepted : (finite : Float → Float → Bool) (r : Search K) (ys : List Reply) → accepted finite (rest r) ys ≡ accepted finite r ys
   unfolding accepted rest
@@ -58,13 +68,14 @@ module _ {S K : Type 0} (meant : S → Search K) (next : S → Float → Float �
       ap₂ _∷_ (tells s v (y .0) (y .1))
       (plays (next s (y .0) (y .1)) (fit-next s v (y .0) (y .1)) ys ∙ ap (λ (r : Search K). outcomes r ys) (leaves s v (y .0) (y .1)) ∙ same-outcomes (respond (meant s) (y .0) (y .1)) ys)
 
-  pub reports : (s : S) → Fit s → (ys : List Reply) → reported (meant (reached next s ys)) ≡ reported (after (meant s) ys)
+  pub reaches : {A : Type 0} (h : Search K → A) → ((r : Search K) → h (rest r) ≡ h r) → (s : S) → Fit s → (ys : List Reply)
+      → h (meant (reached next s ys)) ≡ h (after (meant s) ys)
   unfolding reached after
-  reports s v [] = refl
-  reports s v (y ∷ ys) =
-      reports (next s (y .0) (y .1)) (fit-next s v (y .0) (y .1)) ys
-      ∙ ap (λ (r : Search K). reported (after r ys)) (leaves s v (y .0) (y .1))
-      ∙ same-report (respond (meant s) (y .0) (y .1)) ys
+  reaches h e s v [] = refl
+  reaches h e s v (y ∷ ys) =
+      reaches h e (next s (y .0) (y .1)) (fit-next s v (y .0) (y .1)) ys
+      ∙ ap (λ (r : Search K). h (after r ys)) (leaves s v (y .0) (y .1))
+      ∙ same-after h e (respond (meant s) (y .0) (y .1)) ys
 
   -- a counter that each accepted answer raises by one, as long as it is below the largest u32
   module _ (finite : Float → Float → Bool) (count : S → ℕ)

@@ -1,0 +1,240 @@
+-- What is proved of a backtracking search that `start` accepts, for every list of answers: its outcomes and its count of iterations are those of 01's
+-- rules; it is over after 1 + N answers; its evaluations are the finite answers accepted. Assumes nothing.
+use mathlib.Core.Path.{_≡_, refl, sym, ap, _∙_, subst}
+use mathlib.Core.Bool.{Bool, true, false, cond, _&&_, true≢false, false≢true}
+use mathlib.Core.List.{List, [], _∷_}
+use Prim.Native.Nat.{ℕ, zero, suc, _+_, _-_, _≤_, _<_}
+use native.Mathlib.Omega.{arith}
+use lib.Dec.{ltb, leb}
+use Rattle.floats.specs.Arithmetic.{_⊗_}
+use lib.ListN.{length}
+use lib.Ieee.{Float}
+use borrow.Author.Tests.{leb-true, lt-ltb}
+use Rattle.outcomes.specs.Outcomes.{Told, told}
+use Rattle.outcomes.specs.Asking.{Search, end, Over as Ended, Reply, respond, shown, reported, isOver, rest, outcomes, after, accepted, reached, played}
+use Rattle.outcomes.specs.Counters.{counted, evaluations, iterations}
+use Rattle.outcomes.proofs.Ends.{Ends, at-end, at-ask, ends-if, ends-over, ends-accepted}
+use Rattle.outcomes.proofs.Machines as machines
+use Rattle.outcomes.specs.declared.Evaluations.{Evaluations}
+use Rattle.outcomes.specs.declared.Iterations.{Iterations}
+use Rattle.outcomes.specs.declared.Outcome.the-variants.{Ask}
+use Rattle.outcomes.specs.declared.Refusal.the-variants.{SuppliedNotFinite, OutOfRange}
+use Rattle.conditions.specs.Conditions.{answerFinite, holdsOf}
+use Rattle.backtracking.specs.declared.Setup.{Setup}
+use Rattle.backtracking.specs.declared.Stage.{Stage}
+use Rattle.backtracking.specs.declared.Stage.the-variants.{First, Later, Over}
+use Rattle.backtracking.specs.declared.Backtracking.{Backtracking}
+use Rattle.backtracking.specs.declared.Step.{Step}
+use Rattle.backtracking.specs.declared.Started.{Started}
+use Rattle.backtracking.specs.declared.Started.the-variants.{Running, Refused as NoSearch}
+use Rattle.backtracking.specs.Backtracking.{suppliedFinite, limitInRange, stepsInRange, inRanges, trials, search}
+use Rattle.backtracking.specs.Machine.{madeOf, triedOf, answerBy, answerOf, startOf}
+use Rattle.backtracking.specs.Meaning.{meaning, meant, Follows}
+use Rattle.backtracking.proofs.Bridge.{follows}
+
+-- ---- the machine, one answer at a time
+abbrev next : Backtracking → Float → Float → Backtracking
+next s f g = answerOf s f g .search
+
+abbrev says : Backtracking → Float → Float → Told
+says s f g = told (answerOf s f g .outcome)
+
+-- the state after the answers, and all that was told on the way
+abbrev pub reachedBy : Backtracking → List Reply → Backtracking
+reachedBy s ys = reached next s ys
+
+abbrev pub toldBy : Backtracking → List Reply → List Told
+toldBy s ys = played next says s ys
+
+-- ---- a setup that 01 accepts
+pub record Accepted (s : Setup) : Type 0 where
+  pub finite-numbers : suppliedFinite s ≡ true
+  pub ranges : inRanges s ≡ true
+
+-- ---- what a start that is not refused gives
+pub record FreshSearch (s : Setup) (b : Backtracking) : Type 0 where
+  pub accepted-setup : Accepted s
+  pub same-setup : b .setup ≡ s
+  pub stands-for : meant b ≡ search s
+  pub none-evaluated : b .evaluations .0 ≡ 0
+
+second : (a b : Bool) → (a && b) ≡ true → b ≡ true
+second true b e = e
+second false b e = absurd (false≢true e)
+
+limit-fits : (s : Setup) → Accepted s → s .limit ≤ 10000
+limit-fits s a = leb-true (s .limit) 10000 (second (leb 1 (s .limit)) (leb (s .limit) 10000) (second (stepsInRange s) (limitInRange (s .limit)) (a .ranges)))
+
+-- ---- start
+abbrev fresh : Setup → Step
+fresh s = madeOf s (evaluations 0) (iterations 0) First (Ask (s .alpha))
+
+fresh-is : (s : Setup) → Accepted s → FreshSearch s (fresh s .search)
+unfolding meaning
+fresh-is s a =
+    let e : s .limit - 0 ≡ s .limit = omega arith in
+    record { accepted-setup = a; same-setup = refl; stands-for = rw e; none-evaluated = refl }
+
+started-by : (s : Setup) (r : Step) (a b : Bool) → suppliedFinite s ≡ a → inRanges s ≡ b
+    → cond a (cond b (Running (fresh s)) (NoSearch OutOfRange)) (NoSearch SuppliedNotFinite) ≡ Running r → FreshSearch s (r .search)
+started-by s r true true p q e =
+    let same : fresh s ≡ r = cc in
+    subst (λ (t : Step). FreshSearch s (t .search)) same (fresh-is s (record { finite-numbers = p; ranges = q }))
+started-by s r true false p q e = let z : _≡_ {A = ℕ} 0 1 = cc in absurd (omega arith)
+started-by s r false b p q e = let z : _≡_ {A = ℕ} 0 1 = cc in absurd (omega arith)
+
+pub started-fresh : (s : Setup) (r : Step) → startOf s ≡ Running r → FreshSearch s (r .search)
+started-fresh s r e = started-by s r (suppliedFinite s) (inRanges s) refl refl e
+
+-- ---- one answer keeps the setup, and counts
+either : {A : Type 0} (h : Step → A) (b : Bool) (x y : Step) (v : A) → h x ≡ v → h y ≡ v → h (cond b x y) ≡ v
+either h true x y v p q = p
+either h false x y v p q = q
+
+by-test : {A : Type 0} (h : Step → A) (b : Bool) (x y : Step) (v w : A) → h x ≡ v → h y ≡ w → h (cond b x y) ≡ cond b v w
+by-test h true x y v w p q = p
+by-test h false x y v w p q = q
+
+module _ (s : Setup) (n : Evaluations) (before now : Iterations) (t f g : Float) where
+  tried-setup : triedOf s n before now t f g .search .setup ≡ s
+  unfolding triedOf
+  tried-setup =
+      either (λ r. r .search .setup) (answerFinite (s .condition) f g) _ _ s
+      (either (λ r. r .search .setup) (holdsOf (s .condition) (s .f0) (s .s0) t f g) _ _ s refl
+      (either (λ r. r .search .setup) (leb (s .limit) (now .0)) _ _ s refl refl))
+      refl
+
+  tried-count : triedOf s n before now t f g .search .evaluations .0 ≡ cond (answerFinite (s .condition) f g) (counted (n .0)) (n .0)
+  unfolding triedOf
+  tried-count =
+      by-test (λ r. r .search .evaluations .0) (answerFinite (s .condition) f g) _ _ (counted (n .0)) (n .0)
+      (either (λ r. r .search .evaluations .0) (holdsOf (s .condition) (s .f0) (s .s0) t f g) _ _ _ refl
+      (either (λ r. r .search .evaluations .0) (leb (s .limit) (now .0)) _ _ _ refl refl))
+      refl
+
+setup-kept : (b : Backtracking) (f g : Float) (stage : Stage) → answerBy b f g stage .search .setup ≡ b .setup
+unfolding answerBy
+setup-kept b f g First = tried-setup (b .setup) (b .evaluations) (b .iterations) _ (b .setup .alpha) f g
+setup-kept b f g (Later t) = tried-setup (b .setup) (b .evaluations) (b .iterations) _ t f g
+setup-kept b f g Over = refl
+
+adds-one : (a : Bool) (n m k : ℕ) → n < 4294967295 → k ≡ cond a (counted n) n → k + m ≡ n + (cond a 1 0 + m)
+unfolding counted
+adds-one true n m k h e =
+    let l : ltb n 4294967295 ≡ true = lt-ltb n 4294967295 h in
+    let p : k ≡ n + 1 = rw l at e in
+    omega arith
+adds-one false n m k h e = omega arith
+
+accepts : (s : Setup) (k before now : ℕ) (t f g : Float) (ys : List Reply)
+    → accepted (answerFinite (s .condition)) (trials s k before now t) ((f, g) ∷ ys)
+    ≡ cond (answerFinite (s .condition) f g) 1 0 + accepted (answerFinite (s .condition)) (respond (trials s k before now t) f g) ys
+unfolding accepted trials respond
+accepts s zero before now t f g ys = refl
+accepts s (suc k) before now t f g ys = refl
+
+none-more : (o : Ended ℕ) (finite : Float → Float → Bool) (ys : List Reply) → accepted finite (end o) ys ≡ 0
+unfolding accepted
+none-more o finite [] = refl
+none-more o finite (y ∷ ys) = refl
+
+adds-by : (b : Backtracking) (f g : Float) (ys : List Reply) (stage : Stage) → b .evaluations .0 < 4294967295
+    → answerBy b f g stage .search .evaluations .0 + accepted (answerFinite (b .setup .condition)) (respond (meaning (b .setup) (b .iterations .0) stage) f g) ys
+    ≡ b .evaluations .0 + accepted (answerFinite (b .setup .condition)) (meaning (b .setup) (b .iterations .0) stage) ((f, g) ∷ ys)
+unfolding answerBy meaning
+adds-by b f g ys First h =
+    rw (accepts (b .setup) (b .setup .limit - b .iterations .0) (b .iterations .0) (b .iterations .0) (b .setup .alpha) f g ys)
+    (adds-one (answerFinite (b .setup .condition) f g) (b .evaluations .0) _ _ h (tried-count (b .setup) (b .evaluations) (b .iterations) _ (b .setup .alpha) f g))
+adds-by b f g ys (Later t) h =
+    rw (accepts (b .setup) (b .setup .limit - counted (b .iterations .0)) (b .iterations .0) (counted (b .iterations .0)) t f g ys)
+    (adds-one (answerFinite (b .setup .condition) f g) (b .evaluations .0) _ _ h (tried-count (b .setup) (b .evaluations) (b .iterations) _ t f g))
+adds-by b f g ys Over h = unfold respond in rw (none-more _ _ ys, none-more _ _ ((f, g) ∷ ys))
+
+asked-report : (s : Setup) (k before now : ℕ) (t : Float) → reported (trials s k before now t) ≡ before
+unfolding trials reported
+asked-report s zero before now t = refl
+asked-report s (suc k) before now t = refl
+
+asked-open : (s : Setup) (k before now : ℕ) (t : Float) → isOver (trials s k before now t) ≡ false
+unfolding trials isOver
+asked-open s zero before now t = refl
+asked-open s (suc k) before now t = refl
+
+-- ---- the rules' search: it reports what the state counts, is not over while a trial is asked, and ends within 1 + N answers
+reports : (s : Setup) (i : ℕ) (stage : Stage) → reported (meaning s i stage) ≡ i
+unfolding meaning reported
+reports s i First = asked-report s (s .limit - i) i i (s .alpha)
+reports s i (Later t) = asked-report s (s .limit - counted i) i (counted i) t
+reports s i Over = refl
+
+over-is : (s : Setup) (i : ℕ) (stage : Stage) → isOver (meaning s i stage) ≡ true → stage ≡ Over
+unfolding meaning
+over-is s i First e = absurd (false≢true (sym (asked-open s (s .limit - i) i i (s .alpha)) ∙ e))
+over-is s i (Later t) e = absurd (false≢true (sym (asked-open s (s .limit - counted i) i (counted i) t) ∙ e))
+over-is s i Over e = refl
+
+trials-end : (s : Setup) (k before now : ℕ) (t : Float) → Ends (suc k) (trials s k before now t)
+unfolding trials
+trials-end s zero before now t =
+    at-ask (λ f g. ends-if (answerFinite (s .condition) f g) (ends-if (holdsOf (s .condition) (s .f0) (s .s0) t f g) at-end at-end) at-end)
+trials-end s (suc k) before now t =
+    at-ask (λ f g.
+    ends-if (answerFinite (s .condition) f g)
+    (ends-if (holdsOf (s .condition) (s .f0) (s .s0) t f g) at-end (trials-end s k now (now + 1) (t ⊗ s .rho)))
+    at-end)
+
+-- ---- the theorems: for a setup that 01 accepts, the search that `start` gives, and every list of answers
+
+module _ (s : Setup) (b : Backtracking) (new : FreshSearch s b) (ys : List Reply) where
+  abbrev Fit : Backtracking → Type 0
+  Fit c = c .setup ≡ s
+
+  fit-limit : (c : Backtracking) → Fit c → c .setup .limit < 4294967296
+  fit-limit c e = let l : s .limit ≤ 10000 = limit-fits s (new .accepted-setup) in rw e (omega arith)
+
+  fit-next : (c : Backtracking) → Fit c → (f g : Float) → Fit (next c f g)
+  fit-next c e f g = setup-kept c f g (c .stage) ∙ e
+
+  leaves : (c : Backtracking) → Fit c → (f g : Float) → meant (next c f g) ≡ rest (respond (meant c) f g)
+  leaves c e f g = follows c (fit-limit c e) f g (answerOf c f g) refl .leaves
+
+  tells : (c : Backtracking) → Fit c → (f g : Float) → says c f g ≡ shown (respond (meant c) f g)
+  tells c e f g = follows c (fit-limit c e) f g (answerOf c f g) refl .tells
+
+  adds : (c : Backtracking) → Fit c → (f g : Float) (zs : List Reply) → c .evaluations .0 < 4294967295
+      → next c f g .evaluations .0 + accepted (answerFinite (s .condition)) (respond (meant c) f g) zs
+      ≡ c .evaluations .0 + accepted (answerFinite (s .condition)) (meant c) ((f, g) ∷ zs)
+  adds c e f g zs h = subst (λ (u : Setup). next c f g .evaluations .0 + accepted (answerFinite (u .condition)) (respond (meant c) f g) zs ≡ c .evaluations .0 + accepted (answerFinite (u .condition)) (meant c) ((f, g) ∷ zs)) e (adds-by c f g zs (c .stage) h)
+
+  -- demand 2: the outcomes, and the iterations held after the answers, are those of 01's rules
+  pub outcomes-are-rules : toldBy b ys ≡ outcomes (search s) ys
+  outcomes-are-rules = machines.plays meant next says Fit fit-next leaves tells b (new .same-setup) ys ∙ ap (λ (r : Search ℕ). outcomes r ys) (new .stands-for)
+
+  pub iterations-are-rules : reachedBy b ys .iterations .0 ≡ reported (after (search s) ys)
+  iterations-are-rules =
+      let c = reachedBy b ys in
+      sym (reports (c .setup) (c .iterations .0) (c .stage))
+      ∙ machines.reaches meant next says Fit fit-next leaves tells reported machines.report-rests b (new .same-setup) ys
+      ∙ ap (λ (r : Search ℕ). reported (after r ys)) (new .stands-for)
+
+  -- demand 3: any search ends within 1 + N answers
+  pub search-ends : 1 + s .limit ≤ length ys → reachedBy b ys .stage ≡ Over
+  search-ends h =
+      let c = reachedBy b ys in
+      over-is (c .setup) (c .iterations .0) (c .stage)
+      (machines.reaches meant next says Fit fit-next leaves tells isOver machines.over-rests b (new .same-setup) ys
+      ∙ ap (λ (r : Search ℕ). isOver (after r ys)) (new .stands-for)
+      ∙ ends-over (trials-end s (s .limit) 0 0 (s .alpha)) ys (omega arith))
+
+  -- demand 3: the reported evaluations equal the finite answers accepted, which are 1 + N at most
+  pub evaluations-bounded : accepted (answerFinite (s .condition)) (search s) ys ≤ 1 + s .limit
+  evaluations-bounded = let h = ends-accepted (answerFinite (s .condition)) (trials-end s (s .limit) 0 0 (s .alpha)) ys in omega arith
+
+  pub evaluations-counted : reachedBy b ys .evaluations .0 ≡ accepted (answerFinite (s .condition)) (search s) ys
+  evaluations-counted =
+      let same : accepted (answerFinite (s .condition)) (meant b) ys ≡ accepted (answerFinite (s .condition)) (search s) ys = ap (λ (r : Search ℕ). accepted (answerFinite (s .condition)) r ys) (new .stands-for) in
+      let zero-yet = new .none-evaluated in
+      let few = evaluations-bounded in
+      let l : s .limit ≤ 10000 = limit-fits s (new .accepted-setup) in
+      let c = machines.counts meant next says Fit fit-next leaves tells (answerFinite (s .condition)) (λ (c : Backtracking). c .evaluations .0) adds b (new .same-setup) ys (omega arith) in
+      omega arith
