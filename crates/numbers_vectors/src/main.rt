@@ -6,19 +6,9 @@ use numbers::DotResult;
 use numbers::PointResult;
 ghost use mathlib.Core.Path.{_≡_};
 ghost use Prim.Native.Nat.{_≤_, _<_};
-ghost use lib.ListN.{length};
+ghost use lib.ListN as lists;
 
 // ---- reading: past the end every byte is 0
-
-fn byte(s: &[u8], at: usize) -> u8 {
-    if at < s.len() { s[at] } else { 0 }
-}
-
-fn wide(b: u8) -> u64
-    ensures { λ r. ⌜ r < 256 ⌝ }
-{
-    b as u64
-}
 
 // The place k behind at, for places within the list.
 fn after(at: usize, k: usize) -> usize
@@ -33,41 +23,32 @@ fn after(at: usize, k: usize) -> usize
 }
 
 // A length, or a run's.
-fn half(s: &[u8], at: usize) -> usize
+fn length(s: &[u8], at: usize) -> usize
     ensures { λ r. ⌜ r < 512 ⌝ }
 {
-    let high = wide(byte(s, at));
-    let low = wide(byte(s, after(at, 1)));
-    ((high * 256 + low) % 512) as usize
+    wire::pair(wire::from(s, at)) % 512
 }
 
 fn word(s: &[u8], at: usize) -> u64 {
-    (wide(byte(s, at)) << 56)
-        | (wide(byte(s, after(at, 1))) << 48)
-        | (wide(byte(s, after(at, 2))) << 40)
-        | (wide(byte(s, after(at, 3))) << 32)
-        | (wide(byte(s, after(at, 4))) << 24)
-        | (wide(byte(s, after(at, 5))) << 16)
-        | (wide(byte(s, after(at, 6))) << 8)
-        | wide(byte(s, after(at, 7)))
+    wire::word(wire::from(s, at))
 }
 
 fn number(s: &[u8], at: usize) -> f64 {
-    bits::float_of(word(s, at))
+    wire::float(wire::from(s, at))
 }
 
 // A vector's elements into out, run by run; the place behind the vector.
 fn vector(s: &[u8], at: usize, out: &mut [f64]) -> usize
-    requires { ⌜ length (now out) ≡ 512 ⌝ }
+    requires { ⌜ lists.length (now out) ≡ 512 ⌝ }
 {
-    let n = half(s, at);
+    let n = length(s, at);
     let mut next = after(at, 4);
     let mut left = 0;
     let mut x = 0.0;
     let mut i = 0;
     while i < n {
         if left == 0 {
-            left = half(s, next);
+            left = length(s, next);
             x = number(s, after(next, 2));
             next = after(next, 10);
         }
@@ -94,7 +75,7 @@ fn finite_case(s: &[u8], at: usize) -> Judged {
         0
     };
     Judged {
-        right: told == byte(s, after(at, 8)),
+        right: told == wire::byte(s, after(at, 8)),
         next: after(at, 9),
     }
 }
@@ -114,7 +95,7 @@ struct Told {
 
 // What dot tells of the first n elements of a and the first m of b.
 fn dot_told(a: &[f64], n: usize, b: &[f64], m: usize) -> Told
-    requires { ⌜ (n ≤ length (now a)) × (m ≤ length (now b)) ⌝ }
+    requires { ⌜ (n ≤ lists.length (now a)) × (m ≤ lists.length (now b)) ⌝ }
 {
     match numbers::dot(&a[..n], &b[..m]) {
         DotResult::Value(v) => Told {
@@ -131,12 +112,12 @@ fn dot_told(a: &[f64], n: usize, b: &[f64], m: usize) -> Told
 fn dot_case(s: &[u8], at: usize) -> Judged {
     let mut a = [0.0; 512];
     let mut b = [0.0; 512];
-    let n = half(s, at);
+    let n = length(s, at);
     let b_at = vector(s, at, &mut a);
-    let m = half(s, b_at);
+    let m = length(s, b_at);
     let told_at = vector(s, b_at, &mut b);
     let told = dot_told(&a, n, &b, m);
-    let number = byte(s, told_at) as u32;
+    let number = wire::byte(s, told_at) as u32;
     let value = word(s, after(told_at, 1));
     Judged {
         right: (told.number == number) & (told.value == value),
@@ -154,7 +135,7 @@ fn point_told(
     out: &mut [f64],
     k: usize,
 ) -> u32
-    requires { ⌜ (n ≤ length (now x0)) × (m ≤ length (now d)) × (k ≤ length (now out)) ⌝ }
+    requires { ⌜ (n ≤ lists.length (now x0)) × (m ≤ lists.length (now d)) × (k ≤ lists.length (now out)) ⌝ }
 {
     match numbers::point(&x0[..n], alpha, &d[..m], &mut out[..k]) {
         PointResult::Written => 0,
@@ -163,7 +144,7 @@ fn point_told(
 }
 
 fn same(a: &[f64], b: &[f64]) -> bool
-    requires { ⌜ length (now a) ≡ length (now b) ⌝ }
+    requires { ⌜ lists.length (now a) ≡ lists.length (now b) ⌝ }
 {
     let mut i = 0;
     while i < a.len() {
@@ -180,23 +161,23 @@ fn point_case(s: &[u8], at: usize) -> Judged {
     let mut d = [0.0; 512];
     let mut out = [0.0; 512];
     let mut out_after = [0.0; 512];
-    let n = half(s, at);
+    let n = length(s, at);
     let alpha_at = vector(s, at, &mut x0);
     let d_at = after(alpha_at, 8);
-    let m = half(s, d_at);
+    let m = length(s, d_at);
     let out_at = vector(s, d_at, &mut d);
-    let k = half(s, out_at);
+    let k = length(s, out_at);
     let told_at = vector(s, out_at, &mut out);
     let next = vector(s, after(told_at, 1), &mut out_after);
     let told = point_told(&x0, n, number(s, alpha_at), &d, m, &mut out, k);
     Judged {
-        right: (told == byte(s, told_at) as u32) & same(&out, &out_after),
+        right: (told == wire::byte(s, told_at) as u32) & same(&out, &out_after),
         next,
     }
 }
 
 fn case(s: &[u8], at: usize) -> Judged {
-    let kind = byte(s, at);
+    let kind = wire::byte(s, at);
     let body = after(at, 1);
     match kind {
         1 => finite_case(s, body),

@@ -1,0 +1,11 @@
+-- `wire::byte` meets its contract. Assumes nothing.
+use borrow.Author.Needs.{needs}
+use mathlib.Core.Path.{sym}
+use native.Mathlib.Omega.{arith}
+use lib.ListN.{List·getD-eq-default}
+use denote.Ref.{now}
+use Rattle.wire.proofs.byte.Statement.{statement}
+use Rattle.wire.proofs.byte.Tie as tie
+
+pub byte-spec : {M : Type 1} → statement M
+byte-spec = tie.close (tie.spec (λ c. search needs) (λ c. search needs) (λ c. sym (List·getD-eq-default (now (c .before .args .s)) 0 {n = c .before .args .at} (omega arith))))
