@@ -1,5 +1,5 @@
 // Runs the list on standard input through the number routines, and prints how many cases ran and how many came out wrong.
-// tests/make_number_vectors.py makes the list, and says how a case is written.
+// tests/make_numbers_vectors.py makes the list, and says how a case is written.
 use libc::STDIN_FILENO;
 use libc::STDOUT_FILENO;
 use numbers::DotResult;

@@ -1,7 +1,7 @@
 #!/usr/bin/env python3
 """Makes the vectors that crates/numbers_vectors runs: finite test, absolute value, dot and scaled point.
 
-usage: make_number_vectors.py FILE
+usage: make_numbers_vectors.py FILE
 
 What each answer must be is worked out here from the rules alone, on the floats of exact.py. Nothing of the program
 under test is used.
