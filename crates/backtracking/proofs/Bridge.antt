@@ -6,6 +6,7 @@ use Prim.Native.Nat.{ℕ, zero, suc, _+_, _-_, _<_}
 use native.Mathlib.Omega.{arith}
 use lib.Dec.{leb, ltb}
 use lib.Ieee.{Float}
+use lib.Ieee.Scale.{finite}
 use borrow.Author.Tests.{le-leb, lt-leb, lt-ltb}
 use Rattle.floats.specs.Arithmetic.{_⊗_}
 use Rattle.numbers.specs.Answers.{Answer, value, refused, unless_refuse_else_}
@@ -16,7 +17,7 @@ use Rattle.outcomes.proofs.Machines.{Seen, seen, picks}
 use Rattle.outcomes.specs.declared.Evaluations.{Evaluations}
 use Rattle.outcomes.specs.declared.Iterations.{Iterations}
 use Rattle.outcomes.specs.declared.Outcome.the-variants.{Ask, Stop, Limit, Refused}
-use Rattle.outcomes.specs.declared.Refusal.the-variants.{SuppliedNotFinite, OutOfRange}
+use Rattle.outcomes.specs.declared.Refusal.the-variants.{SuppliedNotFinite, OutOfRange, StepNotFinite}
 use Rattle.outcomes.specs.declared.Verdict.the-variants.{Met}
 use Rattle.conditions.specs.Conditions.{answerFinite, holdsOf}
 use Rattle.backtracking.specs.declared.Setup.{Setup}
@@ -25,10 +26,10 @@ use Rattle.backtracking.specs.declared.Stage.the-variants.{First, Later,
 use Rattle.backtracking.specs.declared.Backtracking.{Backtracking}
 use Rattle.backtracking.specs.declared.Step.{Step}
 use Rattle.backtracking.specs.declared.Started.{Started}
-use Rattle.backtracking.specs.declared.Started.the-variants.{Running, Refused as NoSearch}
+use Rattle.backtracking.specs.declared.Started.the-variants.{Began, NoSearch}
 use Rattle.backtracking.specs.Backtracking.{suppliedFinite, inRanges, trials, search}
 use Rattle.backtracking.specs.Machine.{madeOf, triedOf, answerBy, answerOf, startOf}
-use Rattle.backtracking.specs.Meaning.{meaning, meant, startTold, Starts, Follows}
+use Rattle.backtracking.specs.Meaning.{meaning, meant, startTold, startSays, firstOf, Starts, Follows}
 
 abbrev denote : Step → Seen ℕ
 denote t = (meant (t .search), told (t .outcome))
@@ -37,6 +38,11 @@ denote t = (meant (t .search), told (t .outcome))
 counts : (n l : ℕ) → l < 4294967296 → n < l → counted n ≡ n + 1
 unfolding counted
 counts n l h k = rw (lt-ltb n 4294967295 (omega arith))
+
+asked-shown : (s : Setup) (k before now : ℕ) (t : Float) → shown (trials s k before now t) ≡ asks t
+unfolding trials shown
+asked-shown s zero before now t = refl
+asked-shown s (suc k) before now t = refl
 
 -- a trial that is asked stands as it is, and tells its step
 asked : (s : Setup) (k before now : ℕ) (t : Float) → seen (trials s k before now t) ≡ (trials s k before now t, asks t)
@@ -48,16 +54,21 @@ module _ (s : Setup) (fits : s .limit < 4294967296) (m : Evaluations) (now : Ite
   -- what follows a trial that did not meet the condition, while k trials may follow
   further : ℕ → Search ℕ
   further zero = over (now .0) (limit t)
-  further (suc k) = trials s k (now .0) (now .0 + 1) (t ⊗ s .rho)
+  further (suc k) = cond (finite (t ⊗ s .rho)) (trials s k (now .0) (now .0 + 1) (t ⊗ s .rho)) (over (now .0) (refusal 5))
+
+  ended : denote (madeOf s m now Over (Refused StepNotFinite)) ≡ seen (over (now .0) (refusal 5))
+  unfolding seen rest shown meaning
+  ended = refl
 
   goes-on : (k : ℕ) → s .limit - now .0 ≡ k
-      → denote (cond (leb (s .limit) (now .0)) (madeOf s m now Over (Limit t)) (madeOf s m now (Later (t ⊗ s .rho)) (Ask (t ⊗ s .rho)))) ≡ seen (further k)
+      → denote (cond (leb (s .limit) (now .0)) (madeOf s m now Over (Limit t)) (cond (finite (t ⊗ s .rho)) (madeOf s m now (Later (t ⊗ s .rho)) (Ask (t ⊗ s .rho))) (madeOf s m now Over (Refused StepNotFinite)))) ≡ seen (further k)
   unfolding further seen rest shown meaning
   goes-on zero e = rw (le-leb (s .limit) (now .0) (omega arith))
   goes-on (suc k) e =
       let c : counted (now .0) ≡ now .0 + 1 = counts (now .0) (s .limit) fits (omega arith) in
       let d : s .limit - (now .0 + 1) ≡ k = omega arith in
-      rw (lt-leb (s .limit) (now .0) (omega arith), c, d) (sym (asked s k (now .0) (now .0 + 1) (t ⊗ s .rho)))
+      rw (lt-leb (s .limit) (now .0) (omega arith))
+      (picks denote (finite (t ⊗ s .rho)) _ _ _ _ (rw (c, d) (sym (asked s k (now .0) (now .0 + 1) (t ⊗ s .rho)))) ended)
 
   meets : denote (madeOf s m now Over (Stop Met t)) ≡ seen (over (now .0) (stop met t))
   unfolding seen rest shown meaning
@@ -71,7 +82,7 @@ module _ (s : Setup) (fits : s .limit < 4294967296) (m : Evaluations) (now : Ite
   tests : (n : Evaluations) (before : Iterations) (f g : Float) (k : ℕ) → s .limit - now .0 ≡ k
       → denote (cond (answerFinite (s .condition) f g)
       (cond (holdsOf (s .condition) (s .f0) (s .s0) t f g) (madeOf s m now Over (Stop Met t))
-      (cond (leb (s .limit) (now .0)) (madeOf s m now Over (Limit t)) (madeOf s m now (Later (t ⊗ s .rho)) (Ask (t ⊗ s .rho)))))
+      (cond (leb (s .limit) (now .0)) (madeOf s m now Over (Limit t)) (cond (finite (t ⊗ s .rho)) (madeOf s m now (Later (t ⊗ s .rho)) (Ask (t ⊗ s .rho))) (madeOf s m now Over (Refused StepNotFinite)))))
       (madeOf s n before Over (Refused SuppliedNotFinite)))
       ≡ seen (respond (trials s k (before .0) (now .0) t) f g)
   unfolding further trials respond
@@ -102,11 +113,17 @@ follows s h f g r e =
     record { tells = ap (λ (p : Seen ℕ). p .1) z; leaves = ap (λ (p : Seen ℕ). p .0) z }
 
 -- `start`
-starts-with : (s : Setup) (a b : Bool) → startTold (cond a (cond b (Running (madeOf s (evaluations 0) (iterations 0) First (Ask (s .alpha)))) (NoSearch OutOfRange)) (NoSearch SuppliedNotFinite)) ≡ (unless a refuse 2 else unless b refuse 3 else value (search s))
+abbrev Starts-by : Setup → Started → Answer (Search ℕ) → Type 0
+Starts-by s r a = (startTold r ≡ a) × (startSays r ≡ firstOf a)
+
+starts-with : (s : Setup) (a b : Bool)
+    → Starts-by s (cond a (cond b (Began (madeOf s (evaluations 0) (iterations 0) First (Ask (s .alpha)))) (NoSearch OutOfRange)) (NoSearch SuppliedNotFinite)) (unless a refuse 2 else unless b refuse 3 else value (search s))
 unfolding meaning
-starts-with s true true = let e : s .limit - 0 ≡ s .limit = omega arith in rw e
-starts-with s true false = refl
-starts-with s false b = refl
+starts-with s true true = let e : s .limit - 0 ≡ s .limit = omega arith in (rw e, sym (asked-shown s (s .limit) 0 0 (s .alpha)))
+starts-with s true false = (refl, refl)
+starts-with s false b = (refl, refl)
 
 pub starts : (s : Setup) (r : Started) → r ≡ startOf s → Starts s r
-starts s r e = record { as-ruled = ap startTold e ∙ starts-with s (suppliedFinite s) (inRanges s) }
+starts s r e =
+    let z = starts-with s (suppliedFinite s) (inRanges s) in
+    record { stands-for = ap startTold e ∙ z .0; tells-first = ap startSays e ∙ z .1 }

@@ -9,6 +9,7 @@ use lib.Dec.{ltb, leb}
 use Rattle.floats.specs.Arithmetic.{_⊗_}
 use lib.ListN.{length}
 use lib.Ieee.{Float}
+use lib.Ieee.Scale.{finite}
 use borrow.Author.Tests.{leb-true, lt-ltb}
 use Rattle.outcomes.specs.Outcomes.{Told, told}
 use Rattle.outcomes.specs.Asking.{Search, end, Over as Ended, Reply, respond, shown, reported, isOver, rest, outcomes, after, accepted, reached, played}
@@ -26,11 +27,11 @@ use Rattle.backtracking.specs.declared.Stage.the-variants.{First, Later,
 use Rattle.backtracking.specs.declared.Backtracking.{Backtracking}
 use Rattle.backtracking.specs.declared.Step.{Step}
 use Rattle.backtracking.specs.declared.Started.{Started}
-use Rattle.backtracking.specs.declared.Started.the-variants.{Running, Refused as NoSearch}
-use Rattle.backtracking.specs.Backtracking.{suppliedFinite, limitInRange, stepsInRange, inRanges, trials, search}
+use Rattle.backtracking.specs.declared.Started.the-variants.{Began, NoSearch}
+use Rattle.backtracking.specs.Backtracking.{suppliedFinite, limitInRange, parametersInRange, inRanges, trials, search}
 use Rattle.backtracking.specs.Machine.{madeOf, triedOf, answerBy, answerOf, startOf}
 use Rattle.backtracking.specs.Meaning.{meaning, meant, Follows}
-use Rattle.backtracking.proofs.Bridge.{follows}
+use Rattle.backtracking.proofs.Bridge.{follows, starts}
 
 -- ---- the machine, one answer at a time
 abbrev next : Backtracking → Float → Float → Backtracking
@@ -63,7 +64,7 @@ second true b e = e
 second false b e = absurd (false≢true e)
 
 limit-fits : (s : Setup) → Accepted s → s .limit ≤ 10000
-limit-fits s a = leb-true (s .limit) 10000 (second (leb 1 (s .limit)) (leb (s .limit) 10000) (second (stepsInRange s) (limitInRange (s .limit)) (a .ranges)))
+limit-fits s a = leb-true (s .limit) 10000 (second (leb 1 (s .limit)) (leb (s .limit) 10000) (second (parametersInRange s) (limitInRange (s .limit)) (a .ranges)))
 
 -- ---- start
 abbrev fresh : Setup → Step
@@ -76,15 +77,21 @@ fresh-is s a =
     record { accepted-setup = a; same-setup = refl; stands-for = rw e; none-evaluated = refl }
 
 started-by : (s : Setup) (r : Step) (a b : Bool) → suppliedFinite s ≡ a → inRanges s ≡ b
-    → cond a (cond b (Running (fresh s)) (NoSearch OutOfRange)) (NoSearch SuppliedNotFinite) ≡ Running r → FreshSearch s (r .search)
+    → cond a (cond b (Began (fresh s)) (NoSearch OutOfRange)) (NoSearch SuppliedNotFinite) ≡ Began r → FreshSearch s (r .search)
 started-by s r true true p q e =
     let same : fresh s ≡ r = cc in
     subst (λ (t : Step). FreshSearch s (t .search)) same (fresh-is s (record { finite-numbers = p; ranges = q }))
 started-by s r true false p q e = let z : _≡_ {A = ℕ} 0 1 = cc in absurd (omega arith)
 started-by s r false b p q e = let z : _≡_ {A = ℕ} 0 1 = cc in absurd (omega arith)
 
-pub started-fresh : (s : Setup) (r : Step) → startOf s ≡ Running r → FreshSearch s (r .search)
+pub started-fresh : (s : Setup) (r : Step) → startOf s ≡ Began r → FreshSearch s (r .search)
 started-fresh s r e = started-by s r (suppliedFinite s) (inRanges s) refl refl e
+
+-- "Backtracking asks alpha": what is told first is what the rules tell first
+pub first-ask : (s : Setup) (r : Step) → startOf s ≡ Began r → told (r .outcome) ≡ shown (search s)
+first-ask s r e =
+    let a = started-fresh s r e .accepted-setup in
+    starts s (Began r) (sym e) .tells-first ∙ rw (a .finite-numbers, a .ranges)
 
 -- ---- one answer keeps the setup, and counts
 either : {A : Type 0} (h : Step → A) (b : Bool) (x y : Step) (v : A) → h x ≡ v → h y ≡ v → h (cond b x y) ≡ v
@@ -101,7 +108,8 @@ module _ (s : Setup) (n : Evaluations) (before now : Iterations) (t f g : Float)
   tried-setup =
       either (λ r. r .search .setup) (answerFinite (s .condition) f g) _ _ s
       (either (λ r. r .search .setup) (holdsOf (s .condition) (s .f0) (s .s0) t f g) _ _ s refl
-      (either (λ r. r .search .setup) (leb (s .limit) (now .0)) _ _ s refl refl))
+      (either (λ r. r .search .setup) (leb (s .limit) (now .0)) _ _ s refl
+      (either (λ r. r .search .setup) (finite (t ⊗ s .rho)) _ _ s refl refl)))
       refl
 
   tried-count : triedOf s n before now t f g .search .evaluations .0 ≡ cond (answerFinite (s .condition) f g) (counted (n .0)) (n .0)
@@ -109,7 +117,8 @@ module _ (s : Setup) (n : Evaluations) (before now : Iterations) (t f g : Float)
   tried-count =
       by-test (λ r. r .search .evaluations .0) (answerFinite (s .condition) f g) _ _ (counted (n .0)) (n .0)
       (either (λ r. r .search .evaluations .0) (holdsOf (s .condition) (s .f0) (s .s0) t f g) _ _ _ refl
-      (either (λ r. r .search .evaluations .0) (leb (s .limit) (now .0)) _ _ _ refl refl))
+      (either (λ r. r .search .evaluations .0) (leb (s .limit) (now .0)) _ _ _ refl
+      (either (λ r. r .search .evaluations .0) (finite (t ⊗ s .rho)) _ _ _ refl refl)))
       refl
 
 setup-kept : (b : Backtracking) (f g : Float) (stage : Stage) → answerBy b f g stage .search .setup ≡ b .setup
@@ -180,7 +189,8 @@ trials-end s zero before now t =
 trials-end s (suc k) before now t =
     at-ask (λ f g.
     ends-if (answerFinite (s .condition) f g)
-    (ends-if (holdsOf (s .condition) (s .f0) (s .s0) t f g) at-end (trials-end s k now (now + 1) (t ⊗ s .rho)))
+    (ends-if (holdsOf (s .condition) (s .f0) (s .s0) t f g) at-end
+    (ends-if (finite (t ⊗ s .rho)) (trials-end s k now (now + 1) (t ⊗ s .rho)) at-end))
     at-end)
 
 -- ---- the theorems: for a setup that 01 accepts, the search that `start` gives, and every list of answers

@@ -6,7 +6,7 @@ use lib.Ieee.{Float, binary64, ofBits}
 use lib.Ieee.Scale.{finite}
 use Rattle.floats.specs.Arithmetic.{_⊗_, _<ᶠ_, 0ᶠ, 1ᶠ}
 use Rattle.numbers.specs.Answers.{Answer, value, refused, unless_refuse_else_}
-use Rattle.outcomes.specs.Outcomes.{met, stop, limit}
+use Rattle.outcomes.specs.Outcomes.{met, stop, limit, refusal}
 use Rattle.outcomes.specs.Asking.{Search, over, leaving, question}
 use Rattle.conditions.specs.declared.Condition.{Condition}
 use Rattle.conditions.specs.Conditions.{constantsFinite, inRange, answerFinite, holdsOf}
@@ -30,11 +30,11 @@ suppliedFinite s = constantsFinite (s .condition) && finite (s .rho) && finite (
 abbrev pub limitInRange : ℕ → Bool
 limitInRange n = leb 1 n && leb n 10000
 
-abbrev pub stepsInRange : Setup → Bool
-stepsInRange s = inRange (s .condition) && 0ᶠ <ᶠ s .rho && s .rho <ᶠ 1ᶠ && 0ᶠ <ᶠ s .alpha
+abbrev pub parametersInRange : Setup → Bool
+parametersInRange s = inRange (s .condition) && 0ᶠ <ᶠ s .rho && s .rho <ᶠ 1ᶠ && 0ᶠ <ᶠ s .alpha
 
 abbrev pub inRanges : Setup → Bool
-inRanges s = stepsInRange s && limitInRange (s .limit)
+inRanges s = parametersInRange s && limitInRange (s .limit)
 
 -- ---- "Backtracking asks alpha, tests, then alpha*rho, and so on; each later trial is one iteration."
 
@@ -46,10 +46,11 @@ module _ (s : Setup) where
       question (answerFinite (s .condition)) (leaving before) before t λ f g.
       cond (holdsOf (s .condition) (s .f0) (s .s0) t f g) (over now (stop met t)) further
 
-  -- n trials may follow this one; "its limit has the last step tested"
+  -- n trials may follow this one; "its limit has the last step tested". Refusal 5: "the next trial step comes out not finite; nothing is asked"
   unfoldable pub trials : ℕ → ℕ → ℕ → Float → Search ℕ
   trials zero before now t = tested before now t (over now (limit t))
-  trials (suc n) before now t = tested before now t (trials n now (now + 1) (t ⊗ s .rho))
+  trials (suc n) before now t =
+      tested before now t (cond (finite (t ⊗ s .rho)) (trials n now (now + 1) (t ⊗ s .rho)) (over now (refusal 5)))
 
 abbrev pub search : Setup → Search ℕ
 search s = trials s (s .limit) 0 0 (s .alpha)

@@ -1,15 +1,16 @@
 -- The machine's own bookkeeping, which the contracts cite: nobody needs this to check 01. specs/Meaning.antt says what a state stands for in 01's
--- rules, and proofs/Demand2.antt that every step is the rules' step.
+-- rules, proofs/Bridge.antt that every step is the rules' step, and proofs/Theorems.antt the same for any list of answers.
 use Prim.Native.Nat.{ℕ}
 use mathlib.Core.Bool.{cond}
 use lib.Dec.{leb}
 use lib.Ieee.{Float}
+use lib.Ieee.Scale.{finite}
 use Rattle.floats.specs.Arithmetic.{_⊗_}
 use Rattle.outcomes.specs.declared.Evaluations.{Evaluations}
 use Rattle.outcomes.specs.declared.Iterations.{Iterations}
 use Rattle.outcomes.specs.declared.Outcome.{Outcome}
 use Rattle.outcomes.specs.declared.Outcome.the-variants.{Ask, Stop, Limit, Refused}
-use Rattle.outcomes.specs.declared.Refusal.the-variants.{SuppliedNotFinite, OutOfRange, AlreadyOver}
+use Rattle.outcomes.specs.declared.Refusal.the-variants.{SuppliedNotFinite, OutOfRange, StepNotFinite, AlreadyOver}
 use Rattle.outcomes.specs.declared.Verdict.the-variants.{Met}
 use Rattle.outcomes.specs.Counters.{counted, evaluations, iterations}
 use Rattle.conditions.specs.Conditions.{answerFinite, holdsOf}
@@ -19,7 +20,7 @@ use Rattle.backtracking.specs.declared.Stage.the-variants.{First, Later,
 use Rattle.backtracking.specs.declared.Backtracking.{Backtracking}
 use Rattle.backtracking.specs.declared.Step.{Step}
 use Rattle.backtracking.specs.declared.Started.{Started}
-use Rattle.backtracking.specs.declared.Started.the-variants.{Running, Refused as NoSearch}
+use Rattle.backtracking.specs.declared.Started.the-variants.{Began, NoSearch}
 use Rattle.backtracking.specs.Backtracking.{suppliedFinite, inRanges}
 
 abbrev pub madeOf : Setup → Evaluations → Iterations → Stage → Outcome → Step
@@ -28,8 +29,12 @@ madeOf s n i stage outcome = record { search = record { setup = s; evaluations =
 abbrev pub startOf : Setup → Started
 startOf s =
     cond (suppliedFinite s)
-    (cond (inRanges s) (Running (madeOf s (evaluations 0) (iterations 0) First (Ask (s .alpha)))) (NoSearch OutOfRange))
+    (cond (inRanges s) (Began (madeOf s (evaluations 0) (iterations 0) First (Ask (s .alpha)))) (NoSearch OutOfRange))
     (NoSearch SuppliedNotFinite)
+
+abbrev pub shortenedOf : Setup → Evaluations → Iterations → Float → Step
+shortenedOf s n i t =
+    cond (finite (t ⊗ s .rho)) (madeOf s n i (Later (t ⊗ s .rho)) (Ask (t ⊗ s .rho))) (madeOf s n i Over (Refused StepNotFinite))
 
 unfoldable pub triedOf : Setup → Evaluations → Iterations → Iterations → Float → Float → Float → Step
 triedOf s n before now t f g =
@@ -37,7 +42,7 @@ triedOf s n before now t f g =
     cond (answerFinite (s .condition) f g)
     (cond (holdsOf (s .condition) (s .f0) (s .s0) t f g) (madeOf s m now Over (Stop Met t))
     (cond (leb (s .limit) (now .0)) (madeOf s m now Over (Limit t))
-    (madeOf s m now (Later (t ⊗ s .rho)) (Ask (t ⊗ s .rho)))))
+    (shortenedOf s m now t)))
     (madeOf s n before Over (Refused SuppliedNotFinite))
 
 unfoldable pub answerBy : Backtracking → Float → Float → Stage → Step

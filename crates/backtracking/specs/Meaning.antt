@@ -3,7 +3,7 @@ use Prim.Native.Nat.{ℕ, _-_}
 use mathlib.Core.Path.{_≡_}
 use lib.Ieee.{Float}
 use Rattle.numbers.specs.Answers.{Answer, value, refused}
-use Rattle.outcomes.specs.Outcomes.{refusal, numberOf, told}
+use Rattle.outcomes.specs.Outcomes.{refusal, Told, ends, numberOf, told}
 use Rattle.outcomes.specs.Asking.{Search, over, respond, shown, rest}
 use Rattle.outcomes.specs.Counters.{counted}
 use Rattle.backtracking.specs.declared.Setup.{Setup}
@@ -12,7 +12,7 @@ use Rattle.backtracking.specs.declared.Stage.the-variants.{First, Later,
 use Rattle.backtracking.specs.declared.Backtracking.{Backtracking}
 use Rattle.backtracking.specs.declared.Step.{Step}
 use Rattle.backtracking.specs.declared.Started.{Started}
-use Rattle.backtracking.specs.declared.Started.the-variants.{Running, Refused as NoSearch}
+use Rattle.backtracking.specs.declared.Started.the-variants.{Began, NoSearch}
 use Rattle.backtracking.specs.Backtracking.{trials, started}
 
 unfoldable pub meaning : Setup → ℕ → Stage → Search ℕ
@@ -23,14 +23,24 @@ meaning s i Over = over i (refusal 8)
 abbrev pub meant : Backtracking → Search ℕ
 meant s = meaning (s .setup) (s .iterations .0) (s .stage)
 
--- ---- `start`: the refusal's number, or the search that 01's rules are, which has counted nothing
+-- ---- `start`: the refusal's number, or the search that 01's rules are; and what is told first
 
 abbrev pub startTold : Started → Answer (Search ℕ)
-startTold (Running r) = value (meant (r .search))
+startTold (Began r) = value (meant (r .search))
 startTold (NoSearch k) = refused (numberOf k)
 
+-- what a start says: the first step, or the refusal
+abbrev pub startSays : Started → Told
+startSays (Began r) = told (r .outcome)
+startSays (NoSearch k) = ends (refusal (numberOf k))
+
+abbrev pub firstOf : Answer (Search ℕ) → Told
+firstOf (value q) = shown q
+firstOf (refused n) = ends (refusal n)
+
 pub record Starts (s : Setup) (r : Started) : Type 0 where
-  pub as-ruled : startTold r ≡ started s
+  pub stands-for : startTold r ≡ started s
+  pub tells-first : startSays r ≡ firstOf (started s)
 
 -- ---- `answer`: what is told is what the rules tell at this answer, and what is left is what they leave
 

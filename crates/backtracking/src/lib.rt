@@ -10,7 +10,7 @@ use outcomes::Verdict;
 ghost use mathlib.Core.Path.{_≡_};
 ghost use Prim.Native.Nat.{_<_};
 ghost use Rattle.backtracking.specs.Backtracking.{suppliedFinite, inRanges, defaultsOf};
-ghost use Rattle.backtracking.specs.Machine.{startOf, madeOf, triedOf, answerOf};
+ghost use Rattle.backtracking.specs.Machine.{startOf, madeOf, shortenedOf, triedOf, answerOf};
 ghost use Rattle.backtracking.specs.Meaning.{Starts, Follows};
 
 // What does not change in a search.
@@ -48,8 +48,8 @@ pub struct Step {
 }
 
 pub enum Started {
-    Running(Step),
-    Refused(Refusal),
+    Began(Step),
+    NoSearch(Refusal),
 }
 
 // The setup with argmin's rho and first step, and a limit of 100.
@@ -112,12 +112,12 @@ fn begun(s: Setup) -> Started
     ensures { λ r. ⌜ r ≡ startOf s ⌝ }
 {
     if !supplied_finite(s) {
-        return Started::Refused(Refusal::SuppliedNotFinite);
+        return Started::NoSearch(Refusal::SuppliedNotFinite);
     }
     if !in_ranges(s) {
-        return Started::Refused(Refusal::OutOfRange);
+        return Started::NoSearch(Refusal::OutOfRange);
     }
-    Started::Running(made(
+    Started::Began(made(
         s,
         Evaluations(0),
         Iterations(0),
@@ -132,6 +132,23 @@ pub fn start(s: Setup) -> Started
     ensures rules { λ r. ⌜ Starts s r ⌝ }
 {
     begun(s)
+}
+
+// The next trial, at t * rho (5).
+fn shortened(s: Setup, n: Evaluations, i: Iterations, t: f64) -> Step
+    ensures { λ r. ⌜ r ≡ shortenedOf s n i t ⌝ }
+{
+    let shorter = t * s.rho;
+    if numbers::is_finite(shorter) {
+        return made(s, n, i, Stage::Later(shorter), Outcome::Ask(shorter));
+    }
+    made(
+        s,
+        n,
+        i,
+        Stage::Over,
+        Outcome::Refused(Refusal::StepNotFinite),
+    )
 }
 
 // The answer at the step t, before which `before` iterations were counted and with which there are `now`.
@@ -163,8 +180,7 @@ fn tried(
     if s.limit <= now.0 {
         return made(s, m, now, Stage::Over, Outcome::Limit(t));
     }
-    let shorter = t * s.rho;
-    made(s, m, now, Stage::Later(shorter), Outcome::Ask(shorter))
+    shortened(s, m, now, t)
 }
 
 fn answered(s: Backtracking, f: f64, g: f64) -> Step

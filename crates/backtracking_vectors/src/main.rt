@@ -177,7 +177,7 @@ fn search_case(s: &[u8], at: usize) -> Judged {
     let n = wire::pair(wire::from(s, after(at, 62)));
     let body = after(at, 64);
     match backtracking::start(setup_at(s, at)) {
-        Started::Running(r) => {
+        Started::Began(r) => {
             let o = r.outcome;
             let b = r.search;
             let rest = answers(s, body, n, b);
@@ -186,7 +186,7 @@ fn search_case(s: &[u8], at: usize) -> Judged {
                 next: rest.next,
             }
         }
-        Started::Refused(r) => Judged {
+        Started::NoSearch(r) => Judged {
             right: is_told(s, first, Outcome::Refused(r)) & (n == 0),
             next: body,
         },

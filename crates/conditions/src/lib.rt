@@ -82,7 +82,8 @@ impl Condition {
         }
     }
 
-    // Whether the step t with cost f and slope s meets the condition, for a search that starts at cost f0 and slope s0.
+    // Whether the step t with cost f and slope s meets the condition, for a search that starts at cost f0 and slope s0. The bare test: where a NaN
+    // stands it is false, so a search asks `answer_finite` first.
     pub fn holds(self, f0: f64, s0: f64, t: f64, f: f64, s: f64) -> bool
         ensures { λ r. ⌜ r ≡ holdsOf self f0 s0 t f s ⌝ }
     {
@@ -94,9 +95,9 @@ impl Condition {
             }
             Condition::Wolfe { c1, c2 } => (f <= f0 + (c1 * t) * s0) & (s >= c2 * s0),
             Condition::StrongWolfe { c1, c2 } => {
-                let low = numbers::abs(s);
-                let high = numbers::abs(s0);
-                (f <= f0 + (c1 * t) * s0) & (low <= c2 * high)
+                let slope = numbers::abs(s);
+                let start_slope = numbers::abs(s0);
+                (f <= f0 + (c1 * t) * s0) & (slope <= c2 * start_slope)
             }
         }
     }

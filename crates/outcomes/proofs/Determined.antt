@@ -10,7 +10,7 @@ use Rattle.outcomes.specs.declared.Refusal.{Refusal}
 use Rattle.outcomes.specs.declared.Refusal.the-variants.{SuppliedNotFinite, OutOfRange, ResultNotFinite, StepNotFinite, BudgetSpent, StepNotBetween, AlreadyOver}
 use Rattle.outcomes.specs.declared.Outcome.{Outcome}
 use Rattle.outcomes.specs.declared.Outcome.the-variants.{Ask, Stop, Limit, Refused}
-use Rattle.outcomes.specs.Outcomes.{Word, met, wolfe, approximate, stop, limit, refusal, Told, asks, ends, numberOf, wordOf, told}
+use Rattle.outcomes.specs.Outcomes.{Word, met, wolfe, approximate, stop, limit, refusal, Told, asks, ends, numberOf, verdictWord, told}
 
 pub withNumber : ℕ → Refusal
 withNumber n =
@@ -37,7 +37,7 @@ withWord met = Met
 withWord wolfe = Wolfe
 withWord approximate = Approximate
 
-word-back : (v : Verdict) → withWord (wordOf v) ≡ v
+word-back : (v : Verdict) → withWord (verdictWord v) ≡ v
 unfolding withWord
 word-back Met = refl
 word-back Wolfe = refl

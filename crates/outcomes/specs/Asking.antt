@@ -31,7 +31,7 @@ abbrev pub Reply : Type 0
 Reply = Float × Float
 
 module _ {K : Type 0} where
-  -- 01, refusal 8: whatever is said to a search that is over changes nothing
+  -- 01, refusal 8: a search that is over refuses whatever is said to it, and reports what it did
   unfoldable pub respond : Search K → Float → Float → Search K
   respond (ask k x then) f g = then f g
   respond (end o) f g = over (o .keeps) (refusal 8)

@@ -31,13 +31,13 @@ numberOf BudgetSpent = 6
 numberOf StepNotBetween = 7
 numberOf AlreadyOver = 8
 
-abbrev pub wordOf : Verdict → Word
-wordOf Met = met
-wordOf Wolfe = wolfe
-wordOf Approximate = approximate
+abbrev pub verdictWord : Verdict → Word
+verdictWord Met = met
+verdictWord Wolfe = wolfe
+verdictWord Approximate = approximate
 
 abbrev pub told : Outcome → Told
 told (Ask x) = asks x
-told (Stop v x) = ends (stop (wordOf v) x)
+told (Stop v x) = ends (stop (verdictWord v) x)
 told (Limit x) = ends (limit x)
 told (Refused k) = ends (refusal (numberOf k))

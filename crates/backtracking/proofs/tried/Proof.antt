@@ -19,7 +19,7 @@ returns-3 c = rw (c .made3 .ensures, c .before .before .before .before .before .
 
 returns-4 : tie.Need-returns-4
 unfolding triedOf
-returns-4 c = rw (c .made4 .ensures, c .before .before .before .before .before .before .before .next .ensures) (search (tests, c .before .before .before .before .before .before .holds .ensures, c .before .before .before .before .before .before .before .before .before .answer-finite .ensures))
+returns-4 c = rw (c .shortened .ensures, c .before .before .before .before .before .before .next .ensures) (search (tests, c .before .before .before .before .before .holds .ensures, c .before .before .before .before .before .before .before .before .answer-finite .ensures))
 
 pub tried-spec : {M : Type 1} → statement M
 tried-spec =
