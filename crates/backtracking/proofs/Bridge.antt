@@ -11,7 +11,7 @@ use borrow.Author.Tests.{le-leb, lt-leb, lt-ltb}
 use Rattle.floats.specs.Arithmetic.{_⊗_}
 use Rattle.numbers.specs.Answers.{Answer, value, refused, unless_refuse_else_}
 use Rattle.outcomes.specs.Outcomes.{stop, limit, refusal, met, asks, told}
-use Rattle.outcomes.specs.Asking.{Search, over, respond, shown, rest}
+use Rattle.outcomes.specs.Asking.{Search, over, respond, shown, firstOf, rest}
 use Rattle.outcomes.specs.Counters.{counted, evaluations, iterations}
 use Rattle.outcomes.proofs.Machines.{Seen, seen, picks}
 use Rattle.outcomes.specs.declared.Evaluations.{Evaluations}
@@ -29,7 +29,7 @@ use Rattle.backtracking.specs.declared.Started.{Started}
 use Rattle.backtracking.specs.declared.Started.the-variants.{Began, NoSearch}
 use Rattle.backtracking.specs.Backtracking.{suppliedFinite, inRanges, trials, search}
 use Rattle.backtracking.specs.Machine.{madeOf, triedOf, answerBy, answerOf, startOf}
-use Rattle.backtracking.specs.Meaning.{meaning, meant, startTold, startSays, firstOf, Starts, Follows}
+use Rattle.backtracking.specs.Meaning.{meaning, meant, startTold, startSays, Starts, Follows}
 
 abbrev denote : Step → Seen ℕ
 denote t = (meant (t .search), told (t .outcome))

@@ -4,7 +4,7 @@ use mathlib.Core.Path.{_≡_}
 use lib.Ieee.{Float}
 use Rattle.numbers.specs.Answers.{Answer, value, refused}
 use Rattle.outcomes.specs.Outcomes.{refusal, Told, ends, numberOf, told}
-use Rattle.outcomes.specs.Asking.{Search, over, respond, shown, rest}
+use Rattle.outcomes.specs.Asking.{Search, over, respond, shown, firstOf, rest}
 use Rattle.outcomes.specs.Counters.{counted}
 use Rattle.backtracking.specs.declared.Setup.{Setup}
 use Rattle.backtracking.specs.declared.Stage.{Stage}
@@ -33,10 +33,6 @@ startTold (NoSearch k) = refused (numberOf k)
 abbrev pub startSays : Started → Told
 startSays (Began r) = told (r .outcome)
 startSays (NoSearch k) = ends (refusal (numberOf k))
-
-abbrev pub firstOf : Answer (Search ℕ) → Told
-firstOf (value q) = shown q
-firstOf (refused n) = ends (refusal n)
 
 pub record Starts (s : Setup) (r : Started) : Type 0 where
   pub stands-for : startTold r ≡ started s

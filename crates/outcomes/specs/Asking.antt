@@ -4,6 +4,7 @@ use Prim.Native.Nat.{ℕ, _+_}
 use mathlib.Core.Bool.{Bool, true, false, cond}
 use mathlib.Core.List.{List, [], _∷_}
 use lib.Ieee.{Float}
+use Rattle.numbers.specs.Answers.{Answer, value, refused}
 use Rattle.outcomes.specs.Outcomes.{Ending, refusal, Told, asks, ends}
 
 -- K is what is reported while an answer is awaited, R what the run comes to
@@ -53,6 +54,11 @@ module _ {K : Type 0} where
   unfoldable pub rest : Search K → Search K
   rest (ask k x then) = ask k x then
   rest (end o) = over (o .keeps) (refusal 8)
+
+  -- what a start tells: the first step, or the refusal
+  abbrev pub firstOf : Answer (Search K) → Told
+  firstOf (value r) = shown r
+  firstOf (refused n) = ends (refusal n)
 
   -- ---- for any list of answers: what they bring, where they lead, and how many of them are accepted
 

@@ -1,0 +1,235 @@
+-- One answer to the machine is one answer to 01's rules: what the next state stands for is what the rules leave, and what is told is what they tell
+-- (`answers`). Assumes nothing of the state but that its limit is a u32.
+use mathlib.Core.Path.{_≡_, refl, sym, ap, _∙_, subst}
+use mathlib.Core.Bool.{Bool, true, false, cond, _&&_}
+use Prim.Native.Nat.{ℕ, zero, suc, _+_, _-_, _≤_, _<_}
+use native.Mathlib.Nat.{suc-ne-zero}
+use native.Mathlib.Omega.{arith}
+use lib.Dec.{leb, ltb, eqb}
+use lib.Ieee.{Float}
+use lib.Ieee.Scale.{finite}
+use borrow.Author.Tests.{leb-true, leb-false, lt-ltb, ne-eqb}
+use Rattle.floats.specs.Arithmetic.{_<ᶠ_}
+use Rattle.numbers.specs.Answers.{Answer, value, refused, unless_refuse_else_}
+use Rattle.outcomes.specs.Outcomes.{wolfe, approximate, stop, limit, refusal, told}
+use Rattle.outcomes.specs.Asking.{Search as Run, end, over, leaving, respond, shown, firstOf, rest}
+use Rattle.outcomes.specs.Counters.{counted, evaluations, iterations}
+use Rattle.outcomes.proofs.Machines.{Seen, seen, picks}
+use Rattle.outcomes.specs.declared.Evaluations.{Evaluations}
+use Rattle.outcomes.specs.declared.Outcome.the-variants.{Ask, Limit, Refused}
+use Rattle.outcomes.specs.declared.Refusal.the-variants.{SuppliedNotFinite, OutOfRange, ResultNotFinite}
+use Rattle.outcomes.specs.declared.Verdict.the-variants.{Wolfe, Approximate}
+use Rattle.hagerzhang.specs.declared.Point.{Point}
+use Rattle.hagerzhang.specs.declared.Bracket.{Bracket}
+use Rattle.hagerzhang.specs.declared.Options.{Options}
+use Rattle.hagerzhang.specs.declared.Setup.{Setup}
+use Rattle.hagerzhang.specs.declared.Came.{Came}
+use Rattle.hagerzhang.specs.declared.Came.the-variants.{To, On}
+use Rattle.hagerzhang.specs.declared.Further.{Further}
+use Rattle.hagerzhang.specs.declared.Further.the-variants.{Nothing, At}
+use Rattle.hagerzhang.specs.declared.Judged.the-variants.{Holds, Fails}
+use Rattle.hagerzhang.specs.declared.Finished.{Finished}
+use Rattle.hagerzhang.specs.declared.Rule.{Rule}
+use Rattle.hagerzhang.specs.declared.Rule.the-variants.{S1, S4, L2 as ByL2}
+use Rattle.hagerzhang.specs.declared.Trial.{Trial}
+use Rattle.hagerzhang.specs.declared.Asked.{Asked}
+use Rattle.hagerzhang.specs.declared.Waiting.{Waiting}
+use Rattle.hagerzhang.specs.declared.Waiting.the-variants.{Low, High, Start, Running}
+use Rattle.hagerzhang.specs.declared.Stage.{Stage}
+use Rattle.hagerzhang.specs.declared.Stage.the-variants.{Open, Over}
+use Rattle.hagerzhang.specs.declared.Move.{Move}
+use Rattle.hagerzhang.specs.declared.Move.the-variants.{Try, Narrow, End}
+use Rattle.hagerzhang.specs.declared.Then.{Then}
+use Rattle.hagerzhang.specs.declared.Then.the-variants.{Go, Close}
+use Rattle.hagerzhang.specs.declared.Next.{Next}
+use Rattle.hagerzhang.specs.declared.Search.{Search}
+use Rattle.hagerzhang.specs.declared.Step.{Step}
+use Rattle.hagerzhang.specs.declared.Started.{Started}
+use Rattle.hagerzhang.specs.declared.Started.the-variants.{Began, NoSearch}
+use Rattle.hagerzhang.specs.Parameters.{suppliedFinite, inRanges, epsilonK, levelOf, setupOf, accepted}
+use Rattle.hagerzhang.specs.Rules.{point, answerFinite, middleOf, secantOf, S2, S3, L2, orElse, bestOf, wolfeHolds, approximateHolds, judgedOf, trial, between, U3, update, further, afterS4, afterS1, iteration, Report, reportOf as ruleReport, verdict, rounds, askStart, askHigh, search}
+use Rattle.hagerzhang.specs.Machine.{comesOf, leftOf, attemptOf, probeOf, triedBy, afterS4Of, afterS1Of, followBy, onwardOf, openedOf, closedOf, outlookBy, outlookOf, madeOf, settledOf, wentOf, reactOf, keptOf, takenOf, answerBy, answerOf, fresh, startOf}
+use Rattle.hagerzhang.specs.Meaning.{lastOf, reportOf, ended, after, onAsked, onAnswer, askedStep, stepOf, meaning, meant, startTold, startSays, begun, Starts, Follows}
+
+denote : Setup → Next → Seen Report
+denote s n = (meaning s (n .stage), told (n .outcome))
+
+denoteStep : Step → Seen Report
+denoteStep t = (meant (t .search), told (t .outcome))
+
+-- ---- in an iteration: `fin` is what the last finished one left
+module _ (s : Setup) (fin : Finished) where
+  abbrev k : Report
+  k = lastOf fin
+
+  -- what a move means, and what follows in the iteration
+  abbrev moved : Move → Seen Report
+  moved m = denote s (madeOf fin m)
+
+  abbrev went : Then → Seen Report
+  went t = denote s (wentOf s fin t)
+
+  -- a trial (5)
+  tries : (rule : Rule) (w : Bracket) (x : Float) → moved (attemptOf w rule x) ≡ seen (trial s (leaving k) k x (λ c. update s (leaving k) k w c (after s fin rule x)))
+  unfolding attemptOf madeOf trial onAnswer comesOf leftOf keptOf stepOf askedStep reportOf denote seen rest shown meaning
+  tries rule w x = picks moved (finite x) _ _ _ _ refl refl
+
+-- ---- the start or an iteration is finished: the verdict, the limit, and S1 of the next iteration
+module _ (s : Setup) (h : s .options .limit < 4294967296) (w : Bracket) (c : Point) (i : ℕ) where
+  abbrev done : Finished
+  done = record { bracket = w; start = c; best = bestOf (w .a) (w .b) c; iterations = iterations i }
+
+  abbrev N : ℕ
+  N = s .options .limit
+
+  counts : leb N i ≡ false → counted i ≡ i + 1
+  unfolding counted
+  counts e =
+      let l : i < N = leb-false N i e in
+      rw (lt-ltb i 4294967295 (omega arith))
+
+  -- what follows the verdict, while n iterations may be begun
+  onwards : ℕ → Run Report
+  onwards zero = over (ruleReport s w c i) (limit (bestOf (w .a) (w .b) c .x))
+  onwards (suc n) = iteration s (leaving (ruleReport s w c i)) (ruleReport s w c i) w (λ v. rounds s n v c (i + 1))
+
+  round-is : (n : ℕ) → verdict s w c i (onwards n) ≡ rounds s n w c i
+  unfolding onwards rounds
+  round-is zero = refl
+  round-is (suc n) = refl
+
+  limits : (n : ℕ) → n ≡ 0 → moved s done (End (Limit (done .best .x))) ≡ seen (onwards n)
+  unfolding onwards madeOf denote seen rest shown reportOf meaning
+  limits n e = rw e
+
+  begins : (n : ℕ) → counted i ≡ i + 1 → n ≡ suc (N - counted i) → moved s done (attemptOf w S1 (secantOf (w .a) (w .b))) ≡ seen (onwards n)
+  unfolding onwards iteration after trial
+  begins n p e = rw (e, ← p) (tries s done S1 w (secantOf (w .a) (w .b)))
+
+  unjudged : moved s done (outlookBy s done Fails) ≡ seen (onwards (N - i))
+  unfolding outlookBy
+  unjudged = go (leb N i) refl
+    where
+      go : (b : Bool) → leb N i ≡ b → moved s done (cond b (End (Limit (done .best .x))) (attemptOf w S1 (secantOf (w .a) (w .b)))) ≡ seen (onwards (N - i))
+      go true e = limits (N - i) (let l : N ≤ i = leb-true N i e in omega arith)
+      go false e =
+          let l : i < N = leb-false N i e in
+          let p : counted i ≡ i + 1 = counts e in
+          begins (N - i) p (rw p (omega arith))
+
+  judges : (a b : Bool) (go : Run Report) → moved s done (outlookBy s done Fails) ≡ seen go
+      → moved s done (outlookBy s done (cond a (Holds Wolfe) (cond b (Holds Approximate) Fails)))
+      ≡ seen (cond a (over (ruleReport s w c i) (stop wolfe (done .best .x))) (cond b (over (ruleReport s w c i) (stop approximate (done .best .x))) go))
+  unfolding outlookBy madeOf denote seen rest shown reportOf meaning
+  judges true b go e = refl
+  judges false true go e = refl
+  judges false false go e = e
+
+  settles : denote s (settledOf s done) ≡ seen (rounds s (N - i) w c i)
+  unfolding judgedOf verdict
+  settles = judges (wolfeHolds s (done .best)) (approximateHolds s (done .best)) _ unjudged ∙ ap seen (round-is (N - i))
+
+-- ---- the way of an answer in an iteration
+module _ (s : Setup) (h : s .options .limit < 4294967296) (fin : Finished) where
+  abbrev gamma : Float
+  gamma = s .options .params .gamma
+
+  closes : (v : Bracket) → went s fin (Close v) ≡ seen (ended s fin v)
+  unfolding wentOf
+  closes v = settles s h v (fin .start) (counted (fin .iterations .0))
+
+  -- a further trial, or otherwise what follows
+  tried : (u : Bracket) (rule : Rule) (otherwise : Then) (then : Bracket → Run Report) (f : Further) → went s fin otherwise ≡ seen (then u)
+      → ((x : Float) → then ≡ after s fin rule x) → went s fin (triedBy u rule otherwise f) ≡ seen (further s (leaving (lastOf fin)) (lastOf fin) f u then)
+  unfolding triedBy further wentOf
+  tried u rule otherwise then (At x) e same = rw (same x) (tries s fin rule u x)
+  tried u rule otherwise then Nothing e same = e
+
+  after-S4 : (v : Bracket) → went s fin (afterS4Of gamma (fin .bracket) v) ≡ seen (afterS4 s (leaving (lastOf fin)) (lastOf fin) (fin .bracket) v (ended s fin))
+  unfolding afterS4 after
+  after-S4 v = tried v ByL2 (Close v) (ended s fin) (L2 gamma (fin .bracket) v) (closes v) (λ x. refl)
+
+  after-S1 : (c : Float) (u : Bracket) → went s fin (afterS1Of gamma (fin .bracket) c u) ≡ seen (afterS1 s (leaving (lastOf fin)) (lastOf fin) (fin .bracket) c u (ended s fin))
+  unfolding afterS1 after
+  after-S1 c u =
+      tried u S4 (afterS4Of gamma (fin .bracket) u) (λ v. afterS4 s (leaving (lastOf fin)) (lastOf fin) (fin .bracket) v (ended s fin))
+      (orElse (S3 (fin .bracket) c u) (S2 (fin .bracket) c u)) (after-S4 u) (λ x. refl)
+
+  follows-on : (rule : Rule) (c : Float) (u : Bracket) → went s fin (followBy gamma (fin .bracket) c u rule) ≡ seen (after s fin rule c u)
+  unfolding followBy after
+  follows-on S1 c u = after-S1 c u
+  follows-on S4 c u = after-S4 u
+  follows-on ByL2 c u = closes u
+
+  module _ (t : Trial) where
+    abbrev goes-on : Bracket → Run Report
+    goes-on = after s fin (t .rule) (t .x)
+
+    -- U3 while n answers may come
+    narrows : (n : ℕ) (came : Came) → went s fin (onwardOf (s .options .params) (fin .bracket) t n came) ≡ seen (U3 s (leaving (lastOf fin)) (lastOf fin) n came goes-on)
+    unfolding onwardOf wentOf probeOf madeOf U3 between meaning onAnswer comesOf leftOf keptOf stepOf askedStep reportOf denote seen rest shown
+    narrows zero (To u) = follows-on (t .rule) (t .x) u
+    narrows zero (On a k') = refl
+    narrows (suc n) (To u) = follows-on (t .rule) (t .x) u
+    narrows (suc n) (On a k') =
+        let x = middleOf (s .options .params .theta) a k' in
+        let e : suc n - 1 ≡ n = omega arith in
+        let z : eqb (suc n) 0 ≡ false = ne-eqb (suc n) 0 (λ (p : suc n ≡ 0). suc-ne-zero n p) in
+        rw (e, z) (picks (moved s fin) (finite x) _ _ _ _ (picks (moved s fin) (a .x <ᶠ x && x <ᶠ k') _ _ _ _ refl refl) refl)
+
+module _ (s : Setup) (h : s .options .limit < 4294967296) where
+  starts-rounds : (w : Bracket) (c : Point) → denote s (settledOf s (openedOf w c)) ≡ seen (rounds s (s .options .limit) w c 0)
+  starts-rounds w c = let e : s .options .limit - 0 ≡ s .options .limit = omega arith in rw e at (settles s h w c 0)
+
+  -- every finite answer
+  reacts : (waiting : Waiting) (f g : Float) → denote s (reactOf s waiting f g) ≡ seen (onAnswer s waiting f g)
+  unfolding reactOf onAnswer
+  reacts Low f g = unfold askHigh keptOf stepOf reportOf denote seen rest shown meaning in refl
+  reacts (High a) f g = unfold askStart keptOf stepOf reportOf denote seen rest shown meaning in refl
+  reacts (Start w) f g = starts-rounds w (point (s .options .params .start) f g)
+  reacts (Running fin t asked) f g = narrows s h fin t (leftOf (s .options .budget) asked) (comesOf (s .level) t asked f g)
+
+  answered : (n : Evaluations) (waiting : Waiting) (f g : Float) → denoteStep (takenOf s n waiting f g) ≡ seen (respond (meaning s (Open waiting)) f g)
+  unfolding takenOf respond denote denoteStep seen rest shown meaning
+  answered n waiting f g = picks denoteStep (answerFinite f g) _ _ _ _ (reacts waiting f g) refl
+
+answers-by : (s : Search) → s .setup .options .limit < 4294967296 → (f g : Float) (stage : Stage) → s .stage ≡ stage
+    → denoteStep (answerBy s f g stage) ≡ seen (respond (meaning (s .setup) stage) f g)
+unfolding answerBy
+answers-by s h f g (Open waiting) e = answered (s .setup) h (s .evaluations) waiting f g
+answers-by s h f g (Over kept) e = unfold denoteStep seen respond rest shown meaning in rw e
+
+-- every answer to every state
+answers : (s : Search) → s .setup .options .limit < 4294967296 → (f g : Float) → denoteStep (answerOf s f g) ≡ seen (respond (meant s) f g)
+answers s h f g = answers-by s h f g (s .stage) refl
+
+pub follows : (s : Search) → s .setup .options .limit < 4294967296 → (f g : Float) (r : Step) → r ≡ answerOf s f g → Follows s f g r
+unfolding denoteStep seen
+follows s h f g r e =
+    let z = ap denoteStep e ∙ answers s h f g in
+    record { tells = ap (λ (p : Seen Report). p .1) z; leaves = ap (λ (p : Seen Report). p .0) z }
+
+-- ---- `start`
+starts-whole : (s : Setup) → meaning s (Open Low) ≡ search s
+unfolding meaning keptOf stepOf reportOf onAnswer search askHigh
+starts-whole s = refl
+
+first-asked : (s : Setup) → told (fresh s .outcome) ≡ shown (search s)
+unfolding shown search
+first-asked s = refl
+
+abbrev StartsBy : Started → Answer Setup → Type 0
+StartsBy r a = (startTold r ≡ begun a) × (startSays r ≡ firstOf (begun a))
+
+starts-with : (s : Setup) (a b d : Bool)
+    → StartsBy (cond a (cond b (cond d (Began (fresh s)) (NoSearch ResultNotFinite)) (NoSearch OutOfRange)) (NoSearch SuppliedNotFinite))
+    (unless a refuse 2 else unless b refuse 3 else unless d refuse 4 else value s)
+starts-with s true true true = (ap value (starts-whole s), first-asked s)
+starts-with s true true false = (refl, refl)
+starts-with s true false d = (refl, refl)
+starts-with s false b d = (refl, refl)
+
+pub starts : (o : Options) (f0 s0 : Float) (r : Started) → r ≡ startOf o f0 s0 → Starts o f0 s0 r
+starts o f0 s0 r e =
+    let z = starts-with (setupOf o f0 s0) (suppliedFinite o f0 s0) (inRanges o) (finite (epsilonK o f0) && finite (levelOf o f0)) in
+    record { stands-for = ap startTold e ∙ z .0; tells-first = ap startSays e ∙ z .1 }

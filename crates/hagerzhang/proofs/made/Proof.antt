@@ -1,0 +1,22 @@
+-- `hagerzhang::made` meets its contract. Assumes nothing.
+use Rattle.outcomes.proofs.Branches.{tests}
+use Rattle.hagerzhang.specs.Machine.{madeOf}
+use borrow.Author.Needs.{needs}
+use Rattle.hagerzhang.proofs.made.Statement.{statement}
+use Rattle.hagerzhang.proofs.made.Tie as tie
+
+returns : tie.Need-returns
+unfolding madeOf
+returns c = search (tests, c .before .m .given .1)
+
+returns-2 : tie.Need-returns-2
+unfolding madeOf
+returns-2 c = search (tests, c .before .m2 .given .1)
+
+returns-3 : tie.Need-returns-3
+unfolding madeOf
+returns-3 c = search (tests, c .before .m3 .given .1)
+
+pub made-spec : {M : Type 1} → statement M
+made-spec =
+    tie.close (tie.spec (λ c. search needs) (λ c. search needs) (λ c. search needs) returns returns-2 returns-3)

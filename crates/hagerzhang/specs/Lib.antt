@@ -1,0 +1,4 @@
+pub mod Parameters
+pub mod Rules
+pub mod Machine
+pub mod Meaning

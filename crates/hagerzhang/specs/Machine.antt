@@ -1,0 +1,171 @@
+-- The machine's own bookkeeping, which the contracts cite: nobody needs this to check 01. specs/Meaning.antt says what a state stands for in 01's
+-- rules, and proofs/Demand2.antt that every step is the rules' step.
+use Prim.Native.Nat.{ℕ, zero, suc, _-_}
+use mathlib.Core.Bool.{Bool, cond, _&&_}
+use lib.Dec.{leb, eqb}
+use lib.Ieee.{Float}
+use lib.Ieee.Scale.{finite}
+use Rattle.floats.specs.Arithmetic.{_<ᶠ_}
+use Rattle.outcomes.specs.declared.Evaluations.{Evaluations}
+use Rattle.outcomes.specs.declared.Iterations.{Iterations}
+use Rattle.outcomes.specs.declared.Outcome.{Outcome}
+use Rattle.outcomes.specs.declared.Outcome.the-variants.{Ask, Stop, Limit, Refused}
+use Rattle.outcomes.specs.declared.Refusal.the-variants.{SuppliedNotFinite, OutOfRange, ResultNotFinite, StepNotFinite, BudgetSpent, StepNotBetween, AlreadyOver}
+use Rattle.outcomes.specs.Counters.{counted, evaluations, iterations}
+use Rattle.hagerzhang.specs.declared.Point.{Point}
+use Rattle.hagerzhang.specs.declared.Bracket.{Bracket}
+use Rattle.hagerzhang.specs.declared.Params.{Params}
+use Rattle.hagerzhang.specs.declared.Options.{Options}
+use Rattle.hagerzhang.specs.declared.Setup.{Setup}
+use Rattle.hagerzhang.specs.declared.Came.{Came}
+use Rattle.hagerzhang.specs.declared.Came.the-variants.{To, On}
+use Rattle.hagerzhang.specs.declared.Further.{Further}
+use Rattle.hagerzhang.specs.declared.Further.the-variants.{Nothing, At}
+use Rattle.hagerzhang.specs.declared.Judged.{Judged}
+use Rattle.hagerzhang.specs.declared.Judged.the-variants.{Holds, Fails}
+use Rattle.hagerzhang.specs.declared.Finished.{Finished}
+use Rattle.hagerzhang.specs.declared.Kept.{Kept}
+use Rattle.hagerzhang.specs.declared.Kept.the-variants.{NoneYet, Last}
+use Rattle.hagerzhang.specs.declared.Rule.{Rule}
+use Rattle.hagerzhang.specs.declared.Rule.the-variants.{S1, S4, L2 as ByL2}
+use Rattle.hagerzhang.specs.declared.Trial.{Trial}
+use Rattle.hagerzhang.specs.declared.Ends.{Ends}
+use Rattle.hagerzhang.specs.declared.Asked.{Asked}
+use Rattle.hagerzhang.specs.declared.Asked.the-variants.{Update, Between}
+use Rattle.hagerzhang.specs.declared.Waiting.{Waiting}
+use Rattle.hagerzhang.specs.declared.Waiting.the-variants.{Low, High, Start, Running}
+use Rattle.hagerzhang.specs.declared.Stage.{Stage}
+use Rattle.hagerzhang.specs.declared.Stage.the-variants.{Open, Over}
+use Rattle.hagerzhang.specs.declared.Move.{Move}
+use Rattle.hagerzhang.specs.declared.Move.the-variants.{Try, Narrow, End}
+use Rattle.hagerzhang.specs.declared.Then.{Then}
+use Rattle.hagerzhang.specs.declared.Then.the-variants.{Go, Close}
+use Rattle.hagerzhang.specs.declared.Next.{Next}
+use Rattle.hagerzhang.specs.declared.Search.{Search}
+use Rattle.hagerzhang.specs.declared.Step.{Step}
+use Rattle.hagerzhang.specs.declared.Started.{Started}
+use Rattle.hagerzhang.specs.declared.Started.the-variants.{Began, NoSearch}
+use Rattle.hagerzhang.specs.Parameters.{suppliedFinite, inRanges, epsilonK, levelOf, setupOf}
+use Rattle.hagerzhang.specs.Rules.{point, bracket, answerFinite, updatedOf, middleOf, narrowedOf, secantOf, S2, S3, L2, orElse, bestOf, judgedOf}
+
+abbrev pub trialAt : Rule → Float → Trial
+trialAt rule x = record { rule = rule; x = x }
+
+abbrev pub ends : Point → Float → Float → ℕ → Ends
+ends h k d left = record { h = h; k = k; d = d; left = left }
+
+abbrev pub next : Stage → Outcome → Next
+next s o = record { stage = s; outcome = o }
+
+unfoldable pub comesOf : Float → Trial → Asked → Float → Float → Came
+comesOf L t (Update w) f g = updatedOf L w (point (t .x) f g)
+comesOf L t (Between e) f g = narrowedOf L (e .h) (e .k) (point (e .d) f g)
+
+unfoldable pub leftOf : ℕ → Asked → ℕ
+leftOf budget (Update w) = budget
+leftOf budget (Between e) = e .left
+
+unfoldable pub attemptOf : Bracket → Rule → Float → Move
+attemptOf u rule x = cond (finite x) (Try u (trialAt rule x)) (End (Refused StepNotFinite))
+
+unfoldable pub probeOf : Float → Trial → ℕ → Point → Float → Move
+probeOf theta t left h k =
+    let d = middleOf theta h k in
+    cond (eqb left 0) (End (Refused BudgetSpent))
+    (cond (finite d) (cond (h .x <ᶠ d && d <ᶠ k) (Narrow t (ends h k d (left - 1))) (End (Refused StepNotBetween)))
+    (End (Refused StepNotFinite)))
+
+unfoldable pub triedBy : Bracket → Rule → Then → Further → Then
+triedBy u rule otherwise (At x) = Go (attemptOf u rule x)
+triedBy u rule otherwise Nothing = otherwise
+
+abbrev pub afterS4Of : Float → Bracket → Bracket → Then
+afterS4Of gamma w v = triedBy v ByL2 (Close v) (L2 gamma w v)
+
+abbrev pub afterS1Of : Float → Bracket → Float → Bracket → Then
+afterS1Of gamma w c u = triedBy u S4 (afterS4Of gamma w u) (orElse (S3 w c u) (S2 w c u))
+
+unfoldable pub followBy : Float → Bracket → Float → Bracket → Rule → Then
+followBy gamma w c u S1 = afterS1Of gamma w c u
+followBy gamma w c u S4 = afterS4Of gamma w u
+followBy gamma w c u ByL2 = Close u
+
+abbrev pub followOf : Float → Bracket → Trial → Bracket → Then
+followOf gamma w t u = followBy gamma w (t .x) u (t .rule)
+
+unfoldable pub onwardOf : Params → Bracket → Trial → ℕ → Came → Then
+onwardOf p w t left (To u) = followOf (p .gamma) w t u
+onwardOf p w t left (On h k) = Go (probeOf (p .theta) t left h k)
+
+abbrev pub openedOf : Bracket → Point → Finished
+openedOf w c = record { bracket = w; start = c; best = bestOf (w .a) (w .b) c; iterations = iterations 0 }
+
+abbrev pub closedOf : Finished → Bracket → Finished
+closedOf last v = record {
+  bracket = v;
+  start = last .start;
+  best = bestOf (v .a) (v .b) (last .start);
+  iterations = iterations (counted (last .iterations .0));
+}
+
+unfoldable pub outlookBy : Setup → Finished → Judged → Move
+outlookBy s last (Holds v) = End (Stop v (last .best .x))
+outlookBy s last Fails =
+    cond (leb (s .options .limit) (last .iterations .0)) (End (Limit (last .best .x)))
+    (attemptOf (last .bracket) S1 (secantOf (last .bracket .a) (last .bracket .b)))
+
+abbrev pub outlookOf : Setup → Finished → Move
+outlookOf s last = outlookBy s last (judgedOf s (last .best))
+
+unfoldable pub madeOf : Finished → Move → Next
+madeOf last (Try u t) = next (Open (Running last t (Update u))) (Ask (t .x))
+madeOf last (Narrow t e) = next (Open (Running last t (Between e))) (Ask (e .d))
+madeOf last (End o) = next (Over (Last last)) o
+
+abbrev pub settledOf : Setup → Finished → Next
+settledOf s last = madeOf last (outlookOf s last)
+
+unfoldable pub wentOf : Setup → Finished → Then → Next
+wentOf s last (Go m) = madeOf last m
+wentOf s last (Close u) = settledOf s (closedOf last u)
+
+unfoldable pub reactOf : Setup → Waiting → Float → Float → Next
+reactOf s Low f g = next (Open (High (point (s .options .params .min) f g))) (Ask (s .options .params .max))
+reactOf s (High a) f g = next (Open (Start (bracket a (point (s .options .params .max) f g)))) (Ask (s .options .params .start))
+reactOf s (Start w) f g = settledOf s (openedOf w (point (s .options .params .start) f g))
+reactOf s (Running last t asked) f g =
+    wentOf s last
+    (onwardOf (s .options .params) (last .bracket) t (leftOf (s .options .budget) asked) (comesOf (s .level) t asked f g))
+
+unfoldable pub keptOf : Waiting → Kept
+keptOf Low = NoneYet
+keptOf (High a) = NoneYet
+keptOf (Start w) = NoneYet
+keptOf (Running last t asked) = Last last
+
+abbrev pub stepTo : Setup → Evaluations → Next → Step
+stepTo s n to = record { search = record { setup = s; evaluations = n; stage = to .stage }; outcome = to .outcome }
+
+unfoldable pub takenOf : Setup → Evaluations → Waiting → Float → Float → Step
+takenOf s n waiting f g =
+    cond (answerFinite f g) (stepTo s (evaluations (counted (n .0))) (reactOf s waiting f g))
+    (stepTo s n (next (Over (keptOf waiting)) (Refused SuppliedNotFinite)))
+
+unfoldable pub answerBy : Search → Float → Float → Stage → Step
+answerBy s f g (Open waiting) = takenOf (s .setup) (s .evaluations) waiting f g
+answerBy s f g (Over kept) = record { search = s; outcome = Refused AlreadyOver }
+
+abbrev pub answerOf : Search → Float → Float → Step
+answerOf s f g = answerBy s f g (s .stage)
+
+abbrev pub fresh : Setup → Step
+fresh s = stepTo s (evaluations 0) (next (Open Low) (Ask (s .options .params .min)))
+
+abbrev pub startOf : Options → Float → Float → Started
+startOf o f0 s0 =
+    cond (suppliedFinite o f0 s0)
+    (cond (inRanges o)
+    (cond (finite (epsilonK o f0) && finite (levelOf o f0)) (Began (fresh (setupOf o f0 s0)))
+    (NoSearch ResultNotFinite))
+    (NoSearch OutOfRange))
+    (NoSearch SuppliedNotFinite)

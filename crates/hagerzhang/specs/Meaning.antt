@@ -1,0 +1,114 @@
+-- What a state stands for in 01's rules: the search that is left. And what `start` and `answer` promise in the rules' terms.
+use Prim.Native.Nat.{ℕ, _-_}
+use mathlib.Core.Path.{_≡_}
+use lib.Ieee.{Float}
+use Rattle.numbers.specs.Answers.{Answer, value, refused}
+use Rattle.outcomes.specs.Outcomes.{refusal, Told, ends, numberOf, told}
+use Rattle.outcomes.specs.Asking.{Search as Run, over, leaving, question, respond, shown, firstOf, rest}
+use Rattle.outcomes.specs.Counters.{counted}
+use Rattle.hagerzhang.specs.declared.Point.{Point}
+use Rattle.hagerzhang.specs.declared.Bracket.{Bracket}
+use Rattle.hagerzhang.specs.declared.Options.{Options}
+use Rattle.hagerzhang.specs.declared.Setup.{Setup}
+use Rattle.hagerzhang.specs.declared.Finished.{Finished}
+use Rattle.hagerzhang.specs.declared.Kept.{Kept}
+use Rattle.hagerzhang.specs.declared.Kept.the-variants.{NoneYet, Last}
+use Rattle.hagerzhang.specs.declared.Rule.{Rule}
+use Rattle.hagerzhang.specs.declared.Rule.the-variants.{S1, S4, L2}
+use Rattle.hagerzhang.specs.declared.Trial.{Trial}
+use Rattle.hagerzhang.specs.declared.Asked.{Asked}
+use Rattle.hagerzhang.specs.declared.Asked.the-variants.{Update, Between}
+use Rattle.hagerzhang.specs.declared.Waiting.{Waiting}
+use Rattle.hagerzhang.specs.declared.Waiting.the-variants.{Low, High, Start, Running}
+use Rattle.hagerzhang.specs.declared.Stage.{Stage}
+use Rattle.hagerzhang.specs.declared.Stage.the-variants.{Open, Over}
+use Rattle.hagerzhang.specs.declared.Search.{Search}
+use Rattle.hagerzhang.specs.declared.Step.{Step}
+use Rattle.hagerzhang.specs.declared.Started.{Started}
+use Rattle.hagerzhang.specs.declared.Started.the-variants.{Began, NoSearch}
+use Rattle.hagerzhang.specs.Parameters.{accepted}
+use Rattle.hagerzhang.specs.Rules.{point, answerFinite, Report, noneYet, last, U3, afterS1, afterS4, rounds, askStart, askHigh, search}
+use Rattle.hagerzhang.specs.Machine.{comesOf, leftOf, keptOf}
+
+-- ---- what a state reports
+
+abbrev pub lastOf : Finished → Report
+lastOf fin = last (record { bracket = fin .bracket; best = fin .best; iterations = fin .iterations .0 })
+
+unfoldable pub reportOf : Kept → Report
+reportOf NoneYet = noneYet
+reportOf (Last fin) = lastOf fin
+
+unfoldable pub stageReport : Stage → Report
+stageReport (Open waiting) = reportOf (keptOf waiting)
+stageReport (Over kept) = reportOf kept
+
+-- bracket, best and finished iterations, or none yet
+abbrev pub report : Search → Report
+report s = stageReport (s .stage)
+
+-- ---- the search that is left
+
+module _ (s : Setup) (fin : Finished) where
+  -- L3, and then the verdict and what follows it
+  abbrev pub ended : Bracket → Run Report
+  ended v = rounds s (s .options .limit - counted (fin .iterations .0)) v (fin .start) (counted (fin .iterations .0))
+
+  -- how the iteration goes on from the update of a trial at c
+  unfoldable pub after : Rule → Float → Bracket → Run Report
+  after S1 c u = afterS1 s (leaving (lastOf fin)) (lastOf fin) (fin .bracket) c u ended
+  after S4 c u = afterS4 s (leaving (lastOf fin)) (lastOf fin) (fin .bracket) u ended
+  after L2 c u = ended u
+
+  abbrev pub onAsked : Trial → Asked → Float → Float → Run Report
+  onAsked t asked f g =
+      U3 s (leaving (lastOf fin)) (lastOf fin) (leftOf (s .options .budget) asked) (comesOf (s .level) t asked f g) (after (t .rule) (t .x))
+
+-- what a finite answer leads to, and the step that is asked
+unfoldable pub onAnswer : Setup → Waiting → Float → Float → Run Report
+onAnswer s Low f g = askHigh s (point (s .options .params .min) f g)
+onAnswer s (High a) f g = askStart s (record { a = a; b = point (s .options .params .max) f g })
+onAnswer s (Start w) f g = rounds s (s .options .limit) w (point (s .options .params .start) f g) 0
+onAnswer s (Running fin t asked) f g = onAsked s fin t asked f g
+
+unfoldable pub askedStep : Trial → Asked → Float
+askedStep t (Update w) = t .x
+askedStep t (Between e) = e .d
+
+unfoldable pub stepOf : Setup → Waiting → Float
+stepOf s Low = s .options .params .min
+stepOf s (High a) = s .options .params .max
+stepOf s (Start w) = s .options .params .start
+stepOf s (Running fin t asked) = askedStep t asked
+
+unfoldable pub meaning : Setup → Stage → Run Report
+meaning s (Open waiting) = question answerFinite (leaving (reportOf (keptOf waiting))) (reportOf (keptOf waiting)) (stepOf s waiting) (onAnswer s waiting)
+meaning s (Over kept) = over (reportOf kept) (refusal 8)
+
+abbrev pub meant : Search → Run Report
+meant s = meaning (s .setup) (s .stage)
+
+-- ---- `start`: the refusal's number, or the search that 01's rules are for the accepted setup
+
+abbrev pub startTold : Started → Answer (Run Report)
+startTold (Began r) = value (meant (r .search))
+startTold (NoSearch k) = refused (numberOf k)
+
+abbrev pub begun : Answer Setup → Answer (Run Report)
+begun (value s) = value (search s)
+begun (refused n) = refused n
+
+-- what a start says: the first step, or the refusal
+abbrev pub startSays : Started → Told
+startSays (Began r) = told (r .outcome)
+startSays (NoSearch k) = ends (refusal (numberOf k))
+
+pub record Starts (o : Options) (f0 s0 : Float) (r : Started) : Type 0 where
+  pub stands-for : startTold r ≡ begun (accepted o f0 s0)
+  pub tells-first : startSays r ≡ firstOf (begun (accepted o f0 s0))
+
+-- ---- `answer`: what is told is what the rules tell at this answer, and what is left is what they leave
+
+pub record Follows (s : Search) (f g : Float) (r : Step) : Type 0 where
+  pub tells : told (r .outcome) ≡ shown (respond (meant s) f g)
+  pub leaves : meant (r .search) ≡ rest (respond (meant s) f g)

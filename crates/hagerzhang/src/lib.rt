@@ -1,0 +1,664 @@
+// Hager-Zhang (argmin's hagerzhang.rs). The search hands out a step and is given cost and slope there. An answer comes to a bracket or goes on in
+// U3 (Came), something follows in the iteration (Then), the search moves (Move), and one place writes the next state.
+
+use outcomes::Evaluations;
+use outcomes::Iterations;
+use outcomes::Outcome;
+use outcomes::Refusal;
+use outcomes::Verdict;
+ghost use mathlib.Core.Path.{_≡_};
+ghost use Prim.Native.Nat.{_<_};
+ghost use Rattle.hagerzhang.specs.Parameters.{defaultsOf, paramsFinite, suppliedFinite, inRanges};
+ghost use Rattle.hagerzhang.specs.Rules.{answerFinite, secantOf, updatedOf, middleOf, narrowedOf, near, S2, S3, orElse, L2, bestOf, wolfeHolds, approximateHolds, judgedOf};
+ghost use Rattle.hagerzhang.specs.Machine.{fresh, startOf, comesOf, leftOf, attemptOf, probeOf, afterS4Of, afterS1Of, followOf, onwardOf, openedOf, closedOf, outlookOf, madeOf, settledOf, reactOf, keptOf, takenOf, answerOf};
+ghost use Rattle.hagerzhang.specs.Meaning.{Starts, Follows};
+
+// Step, cost and slope.
+pub struct Point {
+    pub x: f64,
+    pub f: f64,
+    pub g: f64,
+}
+
+pub struct Bracket {
+    pub a: Point,
+    pub b: Point,
+}
+
+pub struct Params {
+    pub delta: f64,
+    pub sigma: f64,
+    pub epsilon: f64,
+    pub theta: f64,
+    pub gamma: f64,
+    // checked and stored; no rule reads it
+    pub eta: f64,
+    pub min: f64,
+    pub max: f64,
+    // the start step c
+    pub start: f64,
+}
+
+pub struct Options {
+    pub params: Params,
+    // how many answers one U3 run may have
+    pub budget: u32,
+    // how many iterations may be finished
+    pub limit: u32,
+}
+
+// What does not change in a search.
+pub struct Setup {
+    pub options: Options,
+    // cost and slope at the start
+    pub f0: f64,
+    pub s0: f64,
+    // L = f0 + epsilon_k
+    pub level: f64,
+}
+
+// argmin's parameters, and a budget and a limit of 100.
+pub fn defaults() -> Options
+    ensures { λ r. ⌜ r ≡ defaultsOf ⌝ }
+{
+    Options {
+        params: Params {
+            delta: 0.1,
+            sigma: 0.9,
+            epsilon: 1e-6,
+            theta: 0.5,
+            gamma: 0.66,
+            eta: 0.01,
+            min: 2.220446049250313e-16,
+            max: 1e5,
+            start: 1.0,
+        },
+        budget: 100,
+        limit: 100,
+    }
+}
+
+// ---- the rules, each as a decision
+
+fn both_finite(f: f64, g: f64) -> bool
+    ensures { λ r. ⌜ r ≡ answerFinite f g ⌝ }
+{
+    numbers::is_finite(f) & numbers::is_finite(g)
+}
+
+pub fn secant(p: Point, q: Point) -> f64
+    ensures { λ r. ⌜ r ≡ secantOf p q ⌝ }
+{
+    (p.x * q.g - q.x * p.g) / (q.g - p.g)
+}
+
+// What an answer comes to: the updated bracket, or U3 goes on with its ends.
+enum Came {
+    To(Bracket),
+    On(Point, f64),
+}
+
+// U0 to U2; U3 goes on from the low end.
+fn updated(level: f64, w: Bracket, c: Point) -> Came
+    ensures { λ r. ⌜ r ≡ updatedOf level w c ⌝ }
+{
+    let a = w.a;
+    let b = w.b;
+    if (c.x <= a.x) | (c.x >= b.x) {
+        return Came::To(w);
+    }
+    if c.g >= 0.0 {
+        return Came::To(Bracket { a, b: c });
+    }
+    if c.f <= level {
+        return Came::To(Bracket { a: c, b });
+    }
+    Came::On(a, c.x)
+}
+
+// The step that U3 asks between its ends.
+fn middle(theta: f64, h: Point, k: f64) -> f64
+    ensures { λ r. ⌜ r ≡ middleOf theta h k ⌝ }
+{
+    (1.0 - theta) * h.x + theta * k
+}
+
+// U3 by its answer d.
+fn narrowed(level: f64, h: Point, k: f64, d: Point) -> Came
+    ensures { λ r. ⌜ r ≡ narrowedOf level h k d ⌝ }
+{
+    if d.g >= 0.0 {
+        return Came::To(Bracket { a: h, b: d });
+    }
+    if d.f <= level {
+        return Came::On(d, k);
+    }
+    Came::On(h, d.x)
+}
+
+// A further trial of an iteration, if there is one.
+enum Further {
+    Nothing,
+    At(f64),
+}
+
+fn is_near(x: f64, y: f64) -> bool
+    ensures { λ r. ⌜ r ≡ near x y ⌝ }
+{
+    numbers::abs(x - y) < 2.220446049250313e-16
+}
+
+fn s2(w: Bracket, c: f64, u: Bracket) -> Further
+    ensures { λ r. ⌜ r ≡ S2 w c u ⌝ }
+{
+    if is_near(c, u.b.x) {
+        return Further::At(secant(w.b, u.b));
+    }
+    Further::Nothing
+}
+
+fn s3(w: Bracket, c: f64, u: Bracket) -> Further
+    ensures { λ r. ⌜ r ≡ S3 w c u ⌝ }
+{
+    if is_near(c, u.a.x) {
+        return Further::At(secant(w.a, u.a));
+    }
+    Further::Nothing
+}
+
+// The first of two further trials that there is.
+fn or_else(e: Further, d: Further) -> Further
+    ensures { λ r. ⌜ r ≡ orElse e d ⌝ }
+{
+    match e {
+        Further::At(x) => Further::At(x),
+        Further::Nothing => d,
+    }
+}
+
+fn l2(gamma: f64, w: Bracket, u: Bracket) -> Further
+    ensures { λ r. ⌜ r ≡ L2 gamma w u ⌝ }
+{
+    if u.b.x - u.a.x > gamma * (w.b.x - w.a.x) {
+        return Further::At((u.a.x + u.b.x) / 2.0);
+    }
+    Further::Nothing
+}
+
+fn best(a: Point, b: Point, c: Point) -> Point
+    ensures { λ r. ⌜ r ≡ bestOf a b c ⌝ }
+{
+    if (c.f <= a.f) & (c.f <= b.f) {
+        return c;
+    }
+    if (b.f <= a.f) & (b.f <= c.f) {
+        return b;
+    }
+    a
+}
+
+fn wolfe(s: Setup, p: Point) -> bool
+    ensures { λ r. ⌜ r ≡ wolfeHolds s p ⌝ }
+{
+    (p.f - s.f0 <= (s.options.params.delta * p.x) * s.s0) & (p.g >= s.options.params.sigma * s.s0)
+}
+
+fn approximate(s: Setup, p: Point) -> bool
+    ensures { λ r. ⌜ r ≡ approximateHolds s p ⌝ }
+{
+    ((2.0 * s.options.params.delta - 1.0) * s.s0 >= p.g)
+        & (p.g >= s.options.params.sigma * s.s0)
+        & (p.f <= s.level)
+}
+
+enum Judged {
+    Holds(Verdict),
+    Fails,
+}
+
+// The first verdict that holds of the best.
+fn judge(s: Setup, p: Point) -> Judged
+    ensures { λ r. ⌜ r ≡ judgedOf s p ⌝ }
+{
+    if wolfe(s, p) {
+        return Judged::Holds(Verdict::Wolfe);
+    }
+    if approximate(s, p) {
+        return Judged::Holds(Verdict::Approximate);
+    }
+    Judged::Fails
+}
+
+// ---- the state
+
+// What a finished iteration left, or the start: bracket, start point c, best, and how many iterations are finished.
+pub struct Finished {
+    pub bracket: Bracket,
+    pub start: Point,
+    pub best: Point,
+    pub iterations: Iterations,
+}
+
+// What a search that is over keeps. During the first three answers there is no bracket and no best.
+pub enum Kept {
+    NoneYet,
+    Last(Finished),
+}
+
+// The rule of 01 by which a trial is asked.
+pub enum Rule {
+    S1,
+    S4,
+    L2,
+}
+
+pub struct Trial {
+    pub rule: Rule,
+    pub x: f64,
+}
+
+// U3 asked d between h and k, and after this answer `left` more may come.
+pub struct Ends {
+    pub h: Point,
+    pub k: f64,
+    pub d: f64,
+    pub left: u32,
+}
+
+// What an iteration asked: the trial's own step, to update a bracket with, or a step of U3.
+pub enum Asked {
+    Update(Bracket),
+    Between(Ends),
+}
+
+// What the search waits for: the answers of the start, or one in an iteration.
+pub enum Waiting {
+    Low,
+    High(Point),
+    Start(Bracket),
+    Running(Finished, Trial, Asked),
+}
+
+pub enum Stage {
+    Open(Waiting),
+    Over(Kept),
+}
+
+pub struct Search {
+    pub setup: Setup,
+    pub evaluations: Evaluations,
+    pub stage: Stage,
+}
+
+pub struct Step {
+    pub search: Search,
+    pub outcome: Outcome,
+}
+
+pub enum Started {
+    Began(Step),
+    NoSearch(Refusal),
+}
+
+struct Next {
+    stage: Stage,
+    outcome: Outcome,
+}
+
+// ---- the way of an answer
+
+// (1) What the answer comes to.
+fn comes(level: f64, t: Trial, asked: Asked, f: f64, g: f64) -> Came
+    ensures { λ r. ⌜ r ≡ comesOf level t asked f g ⌝ }
+{
+    match asked {
+        Asked::Update(w) => updated(level, w, Point { x: t.x, f, g }),
+        Asked::Between(e) => narrowed(level, e.h, e.k, Point { x: e.d, f, g }),
+    }
+}
+
+// How many answers of U3 may still come.
+fn left(budget: u32, asked: Asked) -> u32
+    ensures { λ r. ⌜ r ≡ leftOf budget asked ⌝ }
+{
+    match asked {
+        Asked::Update(_) => budget,
+        Asked::Between(e) => e.left,
+    }
+}
+
+// What the search does next: it asks a trial, it asks a step of U3, or it is over.
+enum Move {
+    Try(Bracket, Trial),
+    Narrow(Trial, Ends),
+    End(Outcome),
+}
+
+// A trial is asked where its step is finite (5).
+fn attempt(u: Bracket, rule: Rule, x: f64) -> Move
+    ensures { λ r. ⌜ r ≡ attemptOf u rule x ⌝ }
+{
+    if numbers::is_finite(x) {
+        return Move::Try(u, Trial { rule, x });
+    }
+    Move::End(Outcome::Refused(Refusal::StepNotFinite))
+}
+
+// U3's next step is asked where an answer may still come (6) and it is finite (5) and strictly between the ends (7).
+fn probe(theta: f64, t: Trial, left: u32, h: Point, k: f64) -> Move
+    ensures { λ r. ⌜ r ≡ probeOf theta t left h k ⌝ }
+{
+    if left == 0 {
+        return Move::End(Outcome::Refused(Refusal::BudgetSpent));
+    }
+    let d = middle(theta, h, k);
+    if !numbers::is_finite(d) {
+        return Move::End(Outcome::Refused(Refusal::StepNotFinite));
+    }
+    if (h.x < d) & (d < k) {
+        return Move::Narrow(
+            t,
+            Ends {
+                h,
+                k,
+                d,
+                left: left - 1,
+            },
+        );
+    }
+    Move::End(Outcome::Refused(Refusal::StepNotBetween))
+}
+
+// What follows in the iteration: a move, or its end with a bracket.
+enum Then {
+    Go(Move),
+    Close(Bracket),
+}
+
+// After S1 to S4: L2, or the end.
+fn after_s4(gamma: f64, w: Bracket, v: Bracket) -> Then
+    ensures { λ r. ⌜ r ≡ afterS4Of gamma w v ⌝ }
+{
+    match l2(gamma, w, v) {
+        Further::At(x) => Then::Go(attempt(v, Rule::L2, x)),
+        Further::Nothing => Then::Close(v),
+    }
+}
+
+// After S1: S2 and S3 give S4 its step, the latter overwriting the former.
+fn after_s1(gamma: f64, w: Bracket, c: f64, u: Bracket) -> Then
+    ensures { λ r. ⌜ r ≡ afterS1Of gamma w c u ⌝ }
+{
+    match or_else(s3(w, c, u), s2(w, c, u)) {
+        Further::At(x) => Then::Go(attempt(u, Rule::S4, x)),
+        Further::Nothing => after_s4(gamma, w, u),
+    }
+}
+
+// What follows the update of a trial.
+fn follow(gamma: f64, w: Bracket, t: Trial, u: Bracket) -> Then
+    ensures { λ r. ⌜ r ≡ followOf gamma w t u ⌝ }
+{
+    let rule = t.rule;
+    match rule {
+        Rule::S1 => after_s1(gamma, w, t.x, u),
+        Rule::S4 => after_s4(gamma, w, u),
+        Rule::L2 => Then::Close(u),
+    }
+}
+
+// (2) What follows in the iteration.
+fn onward(p: Params, w: Bracket, t: Trial, left: u32, came: Came) -> Then
+    ensures { λ r. ⌜ r ≡ onwardOf p w t left came ⌝ }
+{
+    match came {
+        Came::To(u) => follow(p.gamma, w, t, u),
+        Came::On(h, k) => Then::Go(probe(p.theta, t, left, h, k)),
+    }
+}
+
+// The start's end: best.
+fn opened(w: Bracket, c: Point) -> Finished
+    ensures { λ r. ⌜ r ≡ openedOf w c ⌝ }
+{
+    let p = best(w.a, w.b, c);
+    Finished {
+        bracket: w,
+        start: c,
+        best: p,
+        iterations: Iterations(0),
+    }
+}
+
+// L3, and best.
+fn closed(last: Finished, v: Bracket) -> Finished
+    ensures { λ r. ⌜ r ≡ closedOf last v ⌝ }
+{
+    let start = last.start;
+    let p = best(v.a, v.b, start);
+    let n = last.iterations.next();
+    Finished {
+        bracket: v,
+        start,
+        best: p,
+        iterations: n,
+    }
+}
+
+// (3) After the start or an iteration: the verdict, then the limit, and only then S1 of the next iteration.
+fn outlook(s: Setup, last: Finished) -> Move
+    ensures { λ r. ⌜ r ≡ outlookOf s last ⌝ }
+{
+    let w = last.bracket;
+    match judge(s, last.best) {
+        Judged::Holds(v) => Move::End(Outcome::Stop(v, last.best.x)),
+        Judged::Fails => {
+            if s.options.limit <= last.iterations.0 {
+                return Move::End(Outcome::Limit(last.best.x));
+            }
+            attempt(w, Rule::S1, secant(w.a, w.b))
+        }
+    }
+}
+
+// (4) The next state, and what is said. A refusal keeps what the last finished iteration left.
+fn made(last: Finished, m: Move) -> Next
+    ensures { λ r. ⌜ r ≡ madeOf last m ⌝ }
+{
+    match m {
+        Move::Try(u, t) => Next {
+            stage: Stage::Open(Waiting::Running(last, t, Asked::Update(u))),
+            outcome: Outcome::Ask(t.x),
+        },
+        Move::Narrow(t, e) => Next {
+            stage: Stage::Open(Waiting::Running(last, t, Asked::Between(e))),
+            outcome: Outcome::Ask(e.d),
+        },
+        Move::End(outcome) => Next {
+            stage: Stage::Over(Kept::Last(last)),
+            outcome,
+        },
+    }
+}
+
+// The start or an iteration is finished.
+fn settled(s: Setup, last: Finished) -> Next
+    ensures { λ r. ⌜ r ≡ settledOf s last ⌝ }
+{
+    made(last, outlook(s, last))
+}
+
+fn react(s: Setup, waiting: Waiting, f: f64, g: f64) -> Next
+    ensures { λ r. ⌜ r ≡ reactOf s waiting f g ⌝ }
+{
+    let p = s.options.params;
+    match waiting {
+        Waiting::Low => Next {
+            stage: Stage::Open(Waiting::High(Point { x: p.min, f, g })),
+            outcome: Outcome::Ask(p.max),
+        },
+        Waiting::High(a) => Next {
+            stage: Stage::Open(Waiting::Start(Bracket {
+                a,
+                b: Point { x: p.max, f, g },
+            })),
+            outcome: Outcome::Ask(p.start),
+        },
+        Waiting::Start(w) => settled(s, opened(w, Point { x: p.start, f, g })),
+        Waiting::Running(last, t, asked) => {
+            let w = last.bracket;
+            let n = left(s.options.budget, asked);
+            match onward(p, w, t, n, comes(s.level, t, asked, f, g)) {
+                Then::Go(m) => made(last, m),
+                Then::Close(u) => settled(s, closed(last, u)),
+            }
+        }
+    }
+}
+
+// What is kept when an answer is not finite (2).
+fn keeps(waiting: Waiting) -> Kept
+    ensures { λ r. ⌜ r ≡ keptOf waiting ⌝ }
+{
+    match waiting {
+        Waiting::Low => Kept::NoneYet,
+        Waiting::High(_) => Kept::NoneYet,
+        Waiting::Start(_) => Kept::NoneYet,
+        Waiting::Running(last, _, _) => Kept::Last(last),
+    }
+}
+
+// An answer to a search that is not over. Every finite answer counts, those of a refused iteration too.
+fn taken(s: Setup, n: Evaluations, waiting: Waiting, f: f64, g: f64) -> Step
+    ensures { λ r. ⌜ r ≡ takenOf s n waiting f g ⌝ }
+{
+    if both_finite(f, g) {
+        let next = react(s, waiting, f, g);
+        let stage = next.stage;
+        let outcome = next.outcome;
+        let evaluations = n.next();
+        return Step {
+            search: Search {
+                setup: s,
+                evaluations,
+                stage,
+            },
+            outcome,
+        };
+    }
+    Step {
+        search: Search {
+            setup: s,
+            evaluations: n,
+            stage: Stage::Over(keeps(waiting)),
+        },
+        outcome: Outcome::Refused(Refusal::SuppliedNotFinite),
+    }
+}
+
+fn answered(s: Search, f: f64, g: f64) -> Step
+    ensures { λ r. ⌜ r ≡ answerOf s f g ⌝ }
+{
+    let stage = s.stage;
+    let setup = s.setup;
+    let n = s.evaluations;
+    match stage {
+        Stage::Open(waiting) => taken(setup, n, waiting, f, g),
+        Stage::Over(_) => Step {
+            search: s,
+            outcome: Outcome::Refused(Refusal::AlreadyOver),
+        },
+    }
+}
+
+// One answer, cost f and slope g: the search with it, and what comes next. It is the step that 01's rules take (the limit is below 2^32, as every u32 is).
+pub fn answer(s: Search, f: f64, g: f64) -> Step
+    ensures exact { λ r. ⌜ r ≡ answerOf s f g ⌝ }
+    ensures rules { λ r. ⌜ (s .setup .options .limit < 4294967296 → Follows s f g r) ⌝ }
+{
+    answered(s, f, g)
+}
+
+fn params_finite(p: Params) -> bool
+    ensures { λ r. ⌜ r ≡ paramsFinite p ⌝ }
+{
+    let wolfe = both_finite(p.delta, p.sigma);
+    let epsilon = numbers::is_finite(p.epsilon);
+    let theta = numbers::is_finite(p.theta);
+    let gamma = numbers::is_finite(p.gamma);
+    let eta = numbers::is_finite(p.eta);
+    let min = numbers::is_finite(p.min);
+    let max = numbers::is_finite(p.max);
+    let start = numbers::is_finite(p.start);
+    wolfe & epsilon & theta & gamma & eta & min & max & start
+}
+
+fn supplied_finite(o: Options, f0: f64, s0: f64) -> bool
+    ensures { λ r. ⌜ r ≡ suppliedFinite o f0 s0 ⌝ }
+{
+    let params = params_finite(o.params);
+    let cost = numbers::is_finite(f0);
+    let slope = numbers::is_finite(s0);
+    params & cost & slope
+}
+
+fn in_ranges(o: Options) -> bool
+    ensures { λ r. ⌜ r ≡ inRanges o ⌝ }
+{
+    let p = o.params;
+    let wolfe = (0.0 < p.delta) & (p.delta < 1.0) & (p.delta <= p.sigma) & (p.sigma < 1.0);
+    let factors = (0.0 <= p.epsilon)
+        & (0.0 < p.theta)
+        & (p.theta < 1.0)
+        & (0.0 < p.gamma)
+        & (p.gamma < 1.0)
+        & (0.0 < p.eta);
+    let bounds = (0.0 <= p.min) & (p.min < p.max);
+    let budget = (1 <= o.budget) & (o.budget <= 1000);
+    let limit = (1 <= o.limit) & (o.limit <= 10000);
+    wolfe & factors & bounds & (budget & limit)
+}
+
+// A search that waits for the first answer.
+fn fresh_search(s: Setup) -> Step
+    ensures { λ r. ⌜ r ≡ fresh s ⌝ }
+{
+    Step {
+        search: Search {
+            setup: s,
+            evaluations: Evaluations(0),
+            stage: Stage::Open(Waiting::Low),
+        },
+        outcome: Outcome::Ask(s.options.params.min),
+    }
+}
+
+fn begin(o: Options, f0: f64, s0: f64) -> Started
+    ensures { λ r. ⌜ r ≡ startOf o f0 s0 ⌝ }
+{
+    if !supplied_finite(o, f0, s0) {
+        return Started::NoSearch(Refusal::SuppliedNotFinite);
+    }
+    if !in_ranges(o) {
+        return Started::NoSearch(Refusal::OutOfRange);
+    }
+    let epsilon_k = o.params.epsilon * numbers::abs(f0);
+    let level = f0 + epsilon_k;
+    if !both_finite(epsilon_k, level) {
+        return Started::NoSearch(Refusal::ResultNotFinite);
+    }
+    Started::Began(fresh_search(Setup {
+        options: o,
+        f0,
+        s0,
+        level,
+    }))
+}
+
+// A search that asks the low bound first, for cost f0 and slope s0 at step 0; or why there is none.
+pub fn start(o: Options, f0: f64, s0: f64) -> Started
+    ensures exact { λ r. ⌜ r ≡ startOf o f0 s0 ⌝ }
+    ensures rules { λ r. ⌜ Starts o f0 s0 r ⌝ }
+{
+    begin(o, f0, s0)
+}
