@@ -210,7 +210,7 @@ follows s h f g r e =
     record { tells = ap (λ (p : Seen Report). p .1) z; leaves = ap (λ (p : Seen Report). p .0) z }
 
 -- ---- `start`
-starts-whole : (s : Setup) → meaning s (Open Low) ≡ search s
+pub starts-whole : (s : Setup) → meaning s (Open Low) ≡ search s
 unfolding meaning keptOf stepOf reportOf onAnswer search askHigh
 starts-whole s = refl
 

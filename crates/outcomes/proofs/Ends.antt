@@ -13,9 +13,10 @@ pub data Ends {K R : Type 0} : ℕ → Run K R → Type 0 where
   at-end : {n : ℕ} {o : R} → Ends n (end o)
   at-ask : {n : ℕ} {k : K} {x : Float} {then : Float → Float → Run K R} → ((f g : Float) → Ends n (then f g)) → Ends (suc n) (ask k x then)
 
-pub ends-longer : {K R : Type 0} {n : ℕ} {r : Run K R} → Ends n r → Ends (suc n) r
-ends-longer at-end = at-end
-ends-longer (at-ask h) = at-ask (λ f g. ends-longer (h f g))
+pub ends-within : {K R : Type 0} {n : ℕ} {r : Run K R} → Ends n r → (m : ℕ) → n ≤ m → Ends m r
+ends-within at-end m h = at-end
+ends-within (at-ask e) zero h = absurd (not-suc-le-zero h)
+ends-within (at-ask e) (suc m) h = at-ask (λ f g. ends-within (e f g) m (le-of-suc-le-suc h))
 
 pub ends-if : {K R : Type 0} {n : ℕ} (b : Bool) {r q : Run K R} → Ends n r → Ends n q → Ends n (cond b r q)
 ends-if true h k = h

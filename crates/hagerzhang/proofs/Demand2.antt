@@ -1,0 +1,223 @@
+-- Demand 2, and of demand 3 the ends and the counts: of a search that `start` accepts, for every list of answers. Its outcomes, and the bracket, best and
+-- iterations it holds after them, are those of 01's rules; it is over after 3 + N(3 + 3B) answers; its evaluations are the finite answers accepted.
+-- Assumes nothing.
+use mathlib.Core.Path.{_≡_, refl, sym, ap, _∙_, subst}
+use mathlib.Core.Bool.{Bool, true, false, cond, _&&_, false≢true}
+use mathlib.Core.List.{List, [], _∷_}
+use Prim.Native.Nat.{ℕ, zero, suc, _+_, _*_, _≤_, _<_}
+use native.Mathlib.Nat.{mul-le-mul-right, mul-le-mul-left}
+use native.Mathlib.Omega.{arith}
+use lib.Dec.{ltb, leb}
+use lib.ListN.{length}
+use lib.Ieee.{Float}
+use lib.Ieee.Scale.{finite}
+use borrow.Author.Tests.{leb-true, lt-ltb}
+use Rattle.outcomes.specs.Outcomes.{Told, told}
+use Rattle.outcomes.specs.Asking.{Search as Run, end, Over as Ended, Reply, respond, shown, reported, isOver, rest, outcomes, after, accepted, reached, played}
+use Rattle.outcomes.specs.Counters.{counted}
+use Rattle.outcomes.proofs.Ends.{ends-over, ends-accepted}
+use Rattle.outcomes.proofs.Machines as machines
+use Rattle.outcomes.specs.declared.Evaluations.{Evaluations}
+use Rattle.outcomes.specs.declared.Refusal.the-variants.{SuppliedNotFinite, OutOfRange, ResultNotFinite}
+use Rattle.hagerzhang.specs.declared.Options.{Options}
+use Rattle.hagerzhang.specs.declared.Setup.{Setup}
+use Rattle.hagerzhang.specs.declared.Kept.{Kept}
+use Rattle.hagerzhang.specs.declared.Waiting.{Waiting}
+use Rattle.hagerzhang.specs.declared.Stage.{Stage}
+use Rattle.hagerzhang.specs.declared.Stage.the-variants.{Open, Over}
+use Rattle.hagerzhang.specs.declared.Search.{Search}
+use Rattle.hagerzhang.specs.declared.Step.{Step}
+use Rattle.hagerzhang.specs.declared.Started.{Started}
+use Rattle.hagerzhang.specs.declared.Started.the-variants.{Began, NoSearch}
+use Rattle.hagerzhang.specs.Parameters.{suppliedFinite, wolfeInRange, factorsInRange, boundsInRange, countsInRange, inRanges, epsilonK, levelOf, setupOf}
+use Rattle.hagerzhang.specs.Rules.{answerFinite, Report, search}
+use Rattle.hagerzhang.specs.Machine.{takenOf, answerBy, answerOf, fresh, startOf}
+use Rattle.hagerzhang.specs.Meaning.{stageReport, report, meaning, meant, Follows}
+use Rattle.hagerzhang.proofs.Bridge.{follows, starts, starts-whole}
+use Rattle.hagerzhang.proofs.Bounds.{search-within}
+
+-- ---- the machine, one answer at a time
+abbrev next : Search → Float → Float → Search
+next s f g = answerOf s f g .search
+
+abbrev says : Search → Float → Float → Told
+says s f g = told (answerOf s f g .outcome)
+
+-- the state after the answers, and all that was told on the way
+abbrev pub reachedBy : Search → List Reply → Search
+reachedBy s ys = reached next s ys
+
+abbrev pub toldBy : Search → List Reply → List Told
+toldBy s ys = played next says s ys
+
+-- ---- a setup that 01 accepts: finite numbers in 01's ranges, and L as 01 defines it, finite
+pub record Accepted (s : Setup) : Type 0 where
+  pub finite-numbers : suppliedFinite (s .options) (s .f0) (s .s0) ≡ true
+  pub ranges : inRanges (s .options) ≡ true
+  pub level-is : s .level ≡ levelOf (s .options) (s .f0)
+  pub level-finite : (finite (epsilonK (s .options) (s .f0)) && finite (levelOf (s .options) (s .f0))) ≡ true
+
+-- ---- what a start that is not refused gives
+pub record FreshSearch (s : Setup) (b : Search) : Type 0 where
+  pub accepted-setup : Accepted s
+  pub same-setup : b .setup ≡ s
+  pub stands-for : meant b ≡ search s
+  pub none-evaluated : b .evaluations .0 ≡ 0
+
+started-by : (o : Options) (f0 s0 : Float) (r : Step) (a b d : Bool) → suppliedFinite o f0 s0 ≡ a → inRanges o ≡ b
+    → (finite (epsilonK o f0) && finite (levelOf o f0)) ≡ d
+    → cond a (cond b (cond d (Began (fresh (setupOf o f0 s0))) (NoSearch ResultNotFinite)) (NoSearch OutOfRange)) (NoSearch SuppliedNotFinite) ≡ Began r
+    → FreshSearch (setupOf o f0 s0) (r .search)
+started-by o f0 s0 r true true true p q l e =
+    let same : fresh (setupOf o f0 s0) ≡ r = cc in
+    let acc : Accepted (setupOf o f0 s0) = record { finite-numbers = p; ranges = q; level-is = refl; level-finite = l } in
+    subst (λ (t : Step). FreshSearch (setupOf o f0 s0) (t .search)) same
+    (record { accepted-setup = acc; same-setup = refl; stands-for = starts-whole (setupOf o f0 s0); none-evaluated = refl })
+started-by o f0 s0 r true true false p q l e = let z : _≡_ {A = ℕ} 0 1 = cc in absurd (omega arith)
+started-by o f0 s0 r true false d p q l e = let z : _≡_ {A = ℕ} 0 1 = cc in absurd (omega arith)
+started-by o f0 s0 r false b d p q l e = let z : _≡_ {A = ℕ} 0 1 = cc in absurd (omega arith)
+
+pub started-fresh : (o : Options) (f0 s0 : Float) (r : Step) → startOf o f0 s0 ≡ Began r → FreshSearch (setupOf o f0 s0) (r .search)
+started-fresh o f0 s0 r e = started-by o f0 s0 r (suppliedFinite o f0 s0) (inRanges o) (finite (epsilonK o f0) && finite (levelOf o f0)) refl refl refl e
+
+-- "Start: ask a = min .." : what is told first is what the rules tell first
+pub first-ask : (o : Options) (f0 s0 : Float) (r : Step) → startOf o f0 s0 ≡ Began r → told (r .outcome) ≡ shown (search (setupOf o f0 s0))
+first-ask o f0 s0 r e =
+    let a = started-fresh o f0 s0 r e .accepted-setup in
+    starts o f0 s0 (Began r) (sym e) .tells-first ∙ rw (a .finite-numbers, a .ranges, a .level-finite)
+
+-- ---- the counts' ranges
+second : (a b : Bool) → (a && b) ≡ true → b ≡ true
+second true b e = e
+second false b e = absurd (false≢true e)
+
+first : (a b : Bool) → (a && b) ≡ true → a ≡ true
+first true b e = refl
+first false b e = e
+
+counts-ok : (s : Setup) → Accepted s → countsInRange (s .options) ≡ true
+counts-ok s a = second (wolfeInRange (s .options .params) && factorsInRange (s .options .params) && boundsInRange (s .options .params)) (countsInRange (s .options)) (a .ranges)
+
+limit-fits : (s : Setup) → Accepted s → s .options .limit ≤ 10000
+limit-fits s a =
+    let n = s .options .limit in
+    let m = s .options .budget in
+    leb-true n 10000 (second (leb 1 n) (leb n 10000) (second (leb 1 m && leb m 1000) (leb 1 n && leb n 10000) (counts-ok s a)))
+
+budget-fits : (s : Setup) → Accepted s → s .options .budget ≤ 1000
+budget-fits s a =
+    let n = s .options .limit in
+    let m = s .options .budget in
+    leb-true m 1000 (second (leb 1 m) (leb m 1000) (first (leb 1 m && leb m 1000) (leb 1 n && leb n 10000) (counts-ok s a)))
+
+-- ---- one answer keeps the setup, and counts
+either : {A : Type 0} (h : Step → A) (b : Bool) (x y : Step) (v : A) → h x ≡ v → h y ≡ v → h (cond b x y) ≡ v
+either h true x y v p q = p
+either h false x y v p q = q
+
+by-test : {A : Type 0} (h : Step → A) (b : Bool) (x y : Step) (v w : A) → h x ≡ v → h y ≡ w → h (cond b x y) ≡ cond b v w
+by-test h true x y v w p q = p
+by-test h false x y v w p q = q
+
+setup-kept : (b : Search) (f g : Float) (stage : Stage) → answerBy b f g stage .search .setup ≡ b .setup
+unfolding answerBy takenOf
+setup-kept b f g (Open waiting) = either (λ r. r .search .setup) (answerFinite f g) _ _ (b .setup) refl refl
+setup-kept b f g (Over kept) = refl
+
+adds-one : (a : Bool) (n m k : ℕ) → n < 4294967295 → k ≡ cond a (counted n) n → k + m ≡ n + (cond a 1 0 + m)
+unfolding counted
+adds-one true n m k h e =
+    let l : ltb n 4294967295 ≡ true = lt-ltb n 4294967295 h in
+    let p : k ≡ n + 1 = rw l at e in
+    omega arith
+adds-one false n m k h e = omega arith
+
+none-more : (o : Ended Report) (ys : List Reply) → accepted answerFinite (end o) ys ≡ 0
+unfolding accepted
+none-more o [] = refl
+none-more o (y ∷ ys) = refl
+
+adds-by : (b : Search) (f g : Float) (ys : List Reply) (stage : Stage) → b .evaluations .0 < 4294967295
+    → answerBy b f g stage .search .evaluations .0 + accepted answerFinite (respond (meaning (b .setup) stage) f g) ys
+    ≡ b .evaluations .0 + accepted answerFinite (meaning (b .setup) stage) ((f, g) ∷ ys)
+unfolding answerBy takenOf meaning respond accepted
+adds-by b f g ys (Open waiting) h =
+    adds-one (answerFinite f g) (b .evaluations .0) _ _ h
+    (by-test (λ r. r .search .evaluations .0) (answerFinite f g) _ _ (counted (b .evaluations .0)) (b .evaluations .0) refl refl)
+adds-by b f g ys (Over kept) h = rw (none-more _ ys)
+
+-- ---- what the rules report is what the state holds
+reports : (s : Setup) (stage : Stage) → reported (meaning s stage) ≡ stageReport stage
+unfolding meaning reported stageReport
+reports s (Open waiting) = refl
+reports s (Over kept) = refl
+
+pub isOverStage : Stage → Bool
+isOverStage (Open waiting) = false
+isOverStage (Over kept) = true
+
+over-is : (s : Setup) (stage : Stage) → isOver (meaning s stage) ≡ isOverStage stage
+unfolding meaning isOver isOverStage
+over-is s (Open waiting) = refl
+over-is s (Over kept) = refl
+
+-- ---- the theorems: for a setup that 01 accepts, the search that `start` gives, and every list of answers
+
+module _ (s : Setup) (b : Search) (new : FreshSearch s b) (ys : List Reply) where
+  abbrev Fit : Search → Type 0
+  Fit c = c .setup ≡ s
+
+  fit-limit : (c : Search) → Fit c → c .setup .options .limit < 4294967296
+  fit-limit c e = let l : s .options .limit ≤ 10000 = limit-fits s (new .accepted-setup) in rw e (omega arith)
+
+  fit-next : (c : Search) → Fit c → (f g : Float) → Fit (next c f g)
+  fit-next c e f g = setup-kept c f g (c .stage) ∙ e
+
+  leaves : (c : Search) → Fit c → (f g : Float) → meant (next c f g) ≡ rest (respond (meant c) f g)
+  leaves c e f g = follows c (fit-limit c e) f g (answerOf c f g) refl .leaves
+
+  tells : (c : Search) → Fit c → (f g : Float) → says c f g ≡ shown (respond (meant c) f g)
+  tells c e f g = follows c (fit-limit c e) f g (answerOf c f g) refl .tells
+
+  adds : (c : Search) → Fit c → (f g : Float) (zs : List Reply) → c .evaluations .0 < 4294967295
+      → next c f g .evaluations .0 + accepted answerFinite (respond (meant c) f g) zs ≡ c .evaluations .0 + accepted answerFinite (meant c) ((f, g) ∷ zs)
+  adds c e f g zs h = adds-by c f g zs (c .stage) h
+
+  -- demand 2: "steps, bracket, best step and verdict .. are proved equal to rules U0-U3, S1-S4, L1-L3 .. as 01 writes them"
+  pub outcomes-are-rules : toldBy b ys ≡ outcomes (search s) ys
+  outcomes-are-rules = machines.plays meant next says Fit fit-next leaves tells b (new .same-setup) ys ∙ ap (λ (r : Run Report). outcomes r ys) (new .stands-for)
+
+  pub report-is-rules : report (reachedBy b ys) ≡ reported (after (search s) ys)
+  report-is-rules =
+      let c = reachedBy b ys in
+      sym (reports (c .setup) (c .stage))
+      ∙ machines.reaches meant next says Fit fit-next leaves tells reported machines.report-rests b (new .same-setup) ys
+      ∙ ap (λ (r : Run Report). reported (after r ys)) (new .stands-for)
+
+  -- demand 3: "any search ends within 3+N(3+3B)"
+  pub search-ends : 3 + s .options .limit * (3 + 3 * s .options .budget) ≤ length ys → isOverStage (reachedBy b ys .stage) ≡ true
+  search-ends h =
+      let c = reachedBy b ys in
+      sym (over-is (c .setup) (c .stage))
+      ∙ machines.reaches meant next says Fit fit-next leaves tells isOver machines.over-rests b (new .same-setup) ys
+      ∙ ap (λ (r : Run Report). isOver (after r ys)) (new .stands-for)
+      ∙ ends-over (search-within s) ys h
+
+  -- demand 3: "The reported evaluations equal the finite answers accepted", at most 30,030,003 of them, so that no counter stops
+  pub evaluations-bounded : accepted answerFinite (search s) ys ≤ 30030003
+  evaluations-bounded =
+      let h = ends-accepted answerFinite (search-within s) ys in
+      let l : s .options .limit ≤ 10000 = limit-fits s (new .accepted-setup) in
+      let m : s .options .budget ≤ 1000 = budget-fits s (new .accepted-setup) in
+      let each : ℕ = 3 + 3 * s .options .budget in
+      let few : 3 + 3 * s .options .budget ≤ 3003 = omega arith in
+      let one : s .options .limit * (3 + 3 * s .options .budget) ≤ 10000 * (3 + 3 * s .options .budget) = mul-le-mul-right (3 + 3 * s .options .budget) l in
+      omega arith
+
+  pub evaluations-counted : reachedBy b ys .evaluations .0 ≡ accepted answerFinite (search s) ys
+  evaluations-counted =
+      let same : accepted answerFinite (meant b) ys ≡ accepted answerFinite (search s) ys = ap (λ (r : Run Report). accepted answerFinite r ys) (new .stands-for) in
+      let zero-yet = new .none-evaluated in
+      let few = evaluations-bounded in
+      let c = machines.counts meant next says Fit fit-next leaves tells answerFinite (λ (c : Search). c .evaluations .0) adds b (new .same-setup) ys (omega arith) in
+      omega arith
