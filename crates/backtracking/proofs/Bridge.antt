@@ -13,7 +13,7 @@ use Rattle.numbers.specs.Answers.{Answer, value, refused, unless_refuse_else_}
 use Rattle.outcomes.specs.Outcomes.{stop, limit, refusal, met, asks, told}
 use Rattle.outcomes.specs.Asking.{Search, over, respond, shown, firstOf, rest}
 use Rattle.outcomes.specs.Counters.{counted, evaluations, iterations}
-use Rattle.outcomes.proofs.Machines.{Seen, seen, picks}
+use Rattle.outcomes.proofs.Machines.{Seen, seen, picks, counts-on}
 use Rattle.outcomes.specs.declared.Evaluations.{Evaluations}
 use Rattle.outcomes.specs.declared.Iterations.{Iterations}
 use Rattle.outcomes.specs.declared.Outcome.the-variants.{Ask, Stop, Limit, Refused}
@@ -33,11 +33,6 @@ use Rattle.backtracking.specs.Meaning.{meaning, meant, startTold, startS
 
 abbrev denote : Step → Seen ℕ
 denote t = (meant (t .search), told (t .outcome))
-
--- a count below the limit goes up by one
-counts : (n l : ℕ) → l < 4294967296 → n < l → counted n ≡ n + 1
-unfolding counted
-counts n l h k = rw (lt-ltb n 4294967295 (omega arith))
 
 asked-shown : (s : Setup) (k before now : ℕ) (t : Float) → shown (trials s k before now t) ≡ asks t
 unfolding trials shown
@@ -65,7 +60,7 @@ module _ (s : Setup) (fits : s .limit < 4294967296) (m : Evaluations) (now : Ite
   unfolding further seen rest shown meaning
   goes-on zero e = rw (le-leb (s .limit) (now .0) (omega arith))
   goes-on (suc k) e =
-      let c : counted (now .0) ≡ now .0 + 1 = counts (now .0) (s .limit) fits (omega arith) in
+      let c : counted (now .0) ≡ now .0 + 1 = counts-on (now .0) (s .limit) fits (omega arith) in
       let d : s .limit - (now .0 + 1) ≡ k = omega arith in
       rw (lt-leb (s .limit) (now .0) (omega arith))
       (picks denote (finite (t ⊗ s .rho)) _ _ _ _ (rw (c, d) (sym (asked s k (now .0) (now .0 + 1) (t ⊗ s .rho)))) ended)

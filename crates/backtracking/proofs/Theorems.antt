@@ -15,6 +15,7 @@ use Rattle.outcomes.specs.Outcomes.{Told, told}
 use Rattle.outcomes.specs.Asking.{Search, end, Over as Ended, Reply, respond, shown, reported, isOver, rest, outcomes, after, accepted, reached, played}
 use Rattle.outcomes.specs.Counters.{counted, evaluations, iterations}
 use Rattle.outcomes.proofs.Ends.{Ends, at-end, at-ask, ends-if, ends-over, ends-accepted}
+use Rattle.outcomes.proofs.Branches.{either, by-test, and-second}
 use Rattle.outcomes.proofs.Machines as machines
 use Rattle.outcomes.specs.declared.Evaluations.{Evaluations}
 use Rattle.outcomes.specs.declared.Iterations.{Iterations}
@@ -59,12 +60,8 @@ pub record FreshSearch (s : Setup) (b : Backtracking) : Type 0 where
   pub stands-for : meant b ≡ search s
   pub none-evaluated : b .evaluations .0 ≡ 0
 
-second : (a b : Bool) → (a && b) ≡ true → b ≡ true
-second true b e = e
-second false b e = absurd (false≢true e)
-
 limit-fits : (s : Setup) → Accepted s → s .limit ≤ 10000
-limit-fits s a = leb-true (s .limit) 10000 (second (leb 1 (s .limit)) (leb (s .limit) 10000) (second (parametersInRange s) (limitInRange (s .limit)) (a .ranges)))
+limit-fits s a = leb-true (s .limit) 10000 (and-second (leb 1 (s .limit)) (leb (s .limit) 10000) (and-second (parametersInRange s) (limitInRange (s .limit)) (a .ranges)))
 
 -- ---- start
 abbrev fresh : Setup → Step
@@ -94,31 +91,23 @@ first-ask s r e =
     starts s (Began r) (sym e) .tells-first ∙ rw (a .finite-numbers, a .ranges)
 
 -- ---- one answer keeps the setup, and counts
-either : {A : Type 0} (h : Step → A) (b : Bool) (x y : Step) (v : A) → h x ≡ v → h y ≡ v → h (cond b x y) ≡ v
-either h true x y v p q = p
-either h false x y v p q = q
-
-by-test : {A : Type 0} (h : Step → A) (b : Bool) (x y : Step) (v w : A) → h x ≡ v → h y ≡ w → h (cond b x y) ≡ cond b v w
-by-test h true x y v w p q = p
-by-test h false x y v w p q = q
-
 module _ (s : Setup) (n : Evaluations) (before now : Iterations) (t f g : Float) where
   tried-setup : triedOf s n before now t f g .search .setup ≡ s
   unfolding triedOf
   tried-setup =
-      either (λ r. r .search .setup) (answerFinite (s .condition) f g) _ _ s
-      (either (λ r. r .search .setup) (holdsOf (s .condition) (s .f0) (s .s0) t f g) _ _ s refl
-      (either (λ r. r .search .setup) (leb (s .limit) (now .0)) _ _ s refl
-      (either (λ r. r .search .setup) (finite (t ⊗ s .rho)) _ _ s refl refl)))
+      either (λ (r : Step). r .search .setup) (answerFinite (s .condition) f g) _ _ s
+      (either (λ (r : Step). r .search .setup) (holdsOf (s .condition) (s .f0) (s .s0) t f g) _ _ s refl
+      (either (λ (r : Step). r .search .setup) (leb (s .limit) (now .0)) _ _ s refl
+      (either (λ (r : Step). r .search .setup) (finite (t ⊗ s .rho)) _ _ s refl refl)))
       refl
 
   tried-count : triedOf s n before now t f g .search .evaluations .0 ≡ cond (answerFinite (s .condition) f g) (counted (n .0)) (n .0)
   unfolding triedOf
   tried-count =
-      by-test (λ r. r .search .evaluations .0) (answerFinite (s .condition) f g) _ _ (counted (n .0)) (n .0)
-      (either (λ r. r .search .evaluations .0) (holdsOf (s .condition) (s .f0) (s .s0) t f g) _ _ _ refl
-      (either (λ r. r .search .evaluations .0) (leb (s .limit) (now .0)) _ _ _ refl
-      (either (λ r. r .search .evaluations .0) (finite (t ⊗ s .rho)) _ _ _ refl refl)))
+      by-test (λ (r : Step). r .search .evaluations .0) (answerFinite (s .condition) f g) _ _ (counted (n .0)) (n .0)
+      (either (λ (r : Step). r .search .evaluations .0) (holdsOf (s .condition) (s .f0) (s .s0) t f g) _ _ _ refl
+      (either (λ (r : Step). r .search .evaluations .0) (leb (s .limit) (now .0)) _ _ _ refl
+      (either (λ (r : Step). r .search .evaluations .0) (finite (t ⊗ s .rho)) _ _ _ refl refl)))
       refl
 
 setup-kept : (b : Backtracking) (f g : Float) (stage : Stage) → answerBy b f g stage .search .setup ≡ b .setup
@@ -127,14 +116,6 @@ setup-kept b f g First = tried-setup (b .setup) (b .evaluations) (b .iterations)
 setup-kept b f g (Later t) = tried-setup (b .setup) (b .evaluations) (b .iterations) _ t f g
 setup-kept b f g Over = refl
 
-adds-one : (a : Bool) (n m k : ℕ) → n < 4294967295 → k ≡ cond a (counted n) n → k + m ≡ n + (cond a 1 0 + m)
-unfolding counted
-adds-one true n m k h e =
-    let l : ltb n 4294967295 ≡ true = lt-ltb n 4294967295 h in
-    let p : k ≡ n + 1 = rw l at e in
-    omega arith
-adds-one false n m k h e = omega arith
-
 accepts : (s : Setup) (k before now : ℕ) (t f g : Float) (ys : List Reply)
     → accepted (answerFinite (s .condition)) (trials s k before now t) ((f, g) ∷ ys)
     ≡ cond (answerFinite (s .condition) f g) 1 0 + accepted (answerFinite (s .condition)) (respond (trials s k before now t) f g) ys
@@ -142,22 +123,17 @@ unfolding accepted trials respond
 accepts s zero before now t f g ys = refl
 accepts s (suc k) before now t f g ys = refl
 
-none-more : (o : Ended ℕ) (finite : Float → Float → Bool) (ys : List Reply) → accepted finite (end o) ys ≡ 0
-unfolding accepted
-none-more o finite [] = refl
-none-more o finite (y ∷ ys) = refl
-
 adds-by : (b : Backtracking) (f g : Float) (ys : List Reply) (stage : Stage) → b .evaluations .0 < 4294967295
     → answerBy b f g stage .search .evaluations .0 + accepted (answerFinite (b .setup .condition)) (respond (meaning (b .setup) (b .iterations .0) stage) f g) ys
     ≡ b .evaluations .0 + accepted (answerFinite (b .setup .condition)) (meaning (b .setup) (b .iterations .0) stage) ((f, g) ∷ ys)
 unfolding answerBy meaning
 adds-by b f g ys First h =
     rw (accepts (b .setup) (b .setup .limit - b .iterations .0) (b .iterations .0) (b .iterations .0) (b .setup .alpha) f g ys)
-    (adds-one (answerFinite (b .setup .condition) f g) (b .evaluations .0) _ _ h (tried-count (b .setup) (b .evaluations) (b .iterations) _ (b .setup .alpha) f g))
+    (machines.adds-one (answerFinite (b .setup .condition) f g) (b .evaluations .0) _ _ h (tried-count (b .setup) (b .evaluations) (b .iterations) _ (b .setup .alpha) f g))
 adds-by b f g ys (Later t) h =
     rw (accepts (b .setup) (b .setup .limit - counted (b .iterations .0)) (b .iterations .0) (counted (b .iterations .0)) t f g ys)
-    (adds-one (answerFinite (b .setup .condition) f g) (b .evaluations .0) _ _ h (tried-count (b .setup) (b .evaluations) (b .iterations) _ t f g))
-adds-by b f g ys Over h = unfold respond in rw (none-more _ _ ys, none-more _ _ ((f, g) ∷ ys))
+    (machines.adds-one (answerFinite (b .setup .condition) f g) (b .evaluations .0) _ _ h (tried-count (b .setup) (b .evaluations) (b .iterations) _ t f g))
+adds-by b f g ys Over h = unfold respond in rw (machines.none-more _ _ ys, machines.none-more _ _ ((f, g) ∷ ys))
 
 asked-report : (s : Setup) (k before now : ℕ) (t : Float) → reported (trials s k before now t) ≡ before
 unfolding trials reported

@@ -14,7 +14,7 @@ use Rattle.numbers.specs.Answers.{Answer, value, refused, unless_refuse_else_}
 use Rattle.outcomes.specs.Outcomes.{wolfe, approximate, stop, limit, refusal, told}
 use Rattle.outcomes.specs.Asking.{Search as Run, end, over, leaving, respond, shown, firstOf, rest}
 use Rattle.outcomes.specs.Counters.{counted, evaluations, iterations}
-use Rattle.outcomes.proofs.Machines.{Seen, seen, picks}
+use Rattle.outcomes.proofs.Machines.{Seen, seen, picks, counts-on}
 use Rattle.outcomes.specs.declared.Evaluations.{Evaluations}
 use Rattle.outcomes.specs.declared.Outcome.the-variants.{Ask, Limit, Refused}
 use Rattle.outcomes.specs.declared.Refusal.the-variants.{SuppliedNotFinite, OutOfRange, ResultNotFinite}
@@ -82,12 +82,6 @@ module _ (s : Setup) (h : s .options .limit < 4294967296) (w : Bracket) (c : Poi
   abbrev N : ℕ
   N = s .options .limit
 
-  counts : leb N i ≡ false → counted i ≡ i + 1
-  unfolding counted
-  counts e =
-      let l : i < N = leb-false N i e in
-      rw (lt-ltb i 4294967295 (omega arith))
-
   -- what follows the verdict, while n iterations may be begun
   onwards : ℕ → Run Report
   onwards zero = over (ruleReport s w c i) (limit (bestOf (w .a) (w .b) c .x))
@@ -114,7 +108,7 @@ module _ (s : Setup) (h : s .options .limit < 4294967296) (w : Bracket) (c : Poi
       go true e = limits (N - i) (let l : N ≤ i = leb-true N i e in omega arith)
       go false e =
           let l : i < N = leb-false N i e in
-          let p : counted i ≡ i + 1 = counts e in
+          let p : counted i ≡ i + 1 = counts-on i N h l in
           begins (N - i) p (rw p (omega arith))
 
   judges : (a b : Bool) (go : Run Report) → moved s done (outlookBy s done Fails) ≡ seen go

@@ -16,6 +16,7 @@ use Rattle.outcomes.specs.Outcomes.{Told, told}
 use Rattle.outcomes.specs.Asking.{Search as Run, end, Over as Ended, Reply, respond, shown, reported, isOver, rest, outcomes, after, accepted, reached, played}
 use Rattle.outcomes.specs.Counters.{counted}
 use Rattle.outcomes.proofs.Ends.{ends-over, ends-accepted}
+use Rattle.outcomes.proofs.Branches.{either, by-test, and-first, and-second}
 use Rattle.outcomes.proofs.Machines as machines
 use Rattle.outcomes.specs.declared.Evaluations.{Evaluations}
 use Rattle.outcomes.specs.declared.Refusal.the-variants.{SuppliedNotFinite, OutOfRange, ResultNotFinite}
@@ -87,64 +88,35 @@ first-ask o f0 s0 r e =
     starts o f0 s0 (Began r) (sym e) .tells-first ∙ rw (a .finite-numbers, a .ranges, a .level-finite)
 
 -- ---- the counts' ranges
-second : (a b : Bool) → (a && b) ≡ true → b ≡ true
-second true b e = e
-second false b e = absurd (false≢true e)
-
-first : (a b : Bool) → (a && b) ≡ true → a ≡ true
-first true b e = refl
-first false b e = e
-
 counts-ok : (s : Setup) → Accepted s → countsInRange (s .options) ≡ true
-counts-ok s a = second (wolfeInRange (s .options .params) && factorsInRange (s .options .params) && boundsInRange (s .options .params)) (countsInRange (s .options)) (a .ranges)
+counts-ok s a = and-second (wolfeInRange (s .options .params) && factorsInRange (s .options .params) && boundsInRange (s .options .params)) (countsInRange (s .options)) (a .ranges)
 
 limit-fits : (s : Setup) → Accepted s → s .options .limit ≤ 10000
 limit-fits s a =
     let n = s .options .limit in
     let m = s .options .budget in
-    leb-true n 10000 (second (leb 1 n) (leb n 10000) (second (leb 1 m && leb m 1000) (leb 1 n && leb n 10000) (counts-ok s a)))
+    leb-true n 10000 (and-second (leb 1 n) (leb n 10000) (and-second (leb 1 m && leb m 1000) (leb 1 n && leb n 10000) (counts-ok s a)))
 
 budget-fits : (s : Setup) → Accepted s → s .options .budget ≤ 1000
 budget-fits s a =
     let n = s .options .limit in
     let m = s .options .budget in
-    leb-true m 1000 (second (leb 1 m) (leb m 1000) (first (leb 1 m && leb m 1000) (leb 1 n && leb n 10000) (counts-ok s a)))
+    leb-true m 1000 (and-second (leb 1 m) (leb m 1000) (and-first (leb 1 m && leb m 1000) (leb 1 n && leb n 10000) (counts-ok s a)))
 
 -- ---- one answer keeps the setup, and counts
-either : {A : Type 0} (h : Step → A) (b : Bool) (x y : Step) (v : A) → h x ≡ v → h y ≡ v → h (cond b x y) ≡ v
-either h true x y v p q = p
-either h false x y v p q = q
-
-by-test : {A : Type 0} (h : Step → A) (b : Bool) (x y : Step) (v w : A) → h x ≡ v → h y ≡ w → h (cond b x y) ≡ cond b v w
-by-test h true x y v w p q = p
-by-test h false x y v w p q = q
-
 setup-kept : (b : Search) (f g : Float) (stage : Stage) → answerBy b f g stage .search .setup ≡ b .setup
 unfolding answerBy takenOf
-setup-kept b f g (Open waiting) = either (λ r. r .search .setup) (answerFinite f g) _ _ (b .setup) refl refl
+setup-kept b f g (Open waiting) = either (λ (r : Step). r .search .setup) (answerFinite f g) _ _ (b .setup) refl refl
 setup-kept b f g (Over kept) = refl
-
-adds-one : (a : Bool) (n m k : ℕ) → n < 4294967295 → k ≡ cond a (counted n) n → k + m ≡ n + (cond a 1 0 + m)
-unfolding counted
-adds-one true n m k h e =
-    let l : ltb n 4294967295 ≡ true = lt-ltb n 4294967295 h in
-    let p : k ≡ n + 1 = rw l at e in
-    omega arith
-adds-one false n m k h e = omega arith
-
-none-more : (o : Ended Report) (ys : List Reply) → accepted answerFinite (end o) ys ≡ 0
-unfolding accepted
-none-more o [] = refl
-none-more o (y ∷ ys) = refl
 
 adds-by : (b : Search) (f g : Float) (ys : List Reply) (stage : Stage) → b .evaluations .0 < 4294967295
     → answerBy b f g stage .search .evaluations .0 + accepted answerFinite (respond (meaning (b .setup) stage) f g) ys
     ≡ b .evaluations .0 + accepted answerFinite (meaning (b .setup) stage) ((f, g) ∷ ys)
 unfolding answerBy takenOf meaning respond accepted
 adds-by b f g ys (Open waiting) h =
-    adds-one (answerFinite f g) (b .evaluations .0) _ _ h
-    (by-test (λ r. r .search .evaluations .0) (answerFinite f g) _ _ (counted (b .evaluations .0)) (b .evaluations .0) refl refl)
-adds-by b f g ys (Over kept) h = rw (none-more _ ys)
+    machines.adds-one (answerFinite f g) (b .evaluations .0) _ _ h
+    (by-test (λ (r : Step). r .search .evaluations .0) (answerFinite f g) _ _ (counted (b .evaluations .0)) (b .evaluations .0) refl refl)
+adds-by b f g ys (Over kept) h = rw (machines.none-more _ _ ys)
 
 -- ---- what the rules report is what the state holds
 reports : (s : Setup) (stage : Stage) → reported (meaning s stage) ≡ stageReport stage
@@ -209,7 +181,6 @@ module _ (s : Setup) (b : Search) (new : FreshSearch s b) (ys : List Reply) wher
       let h = ends-accepted answerFinite (search-within s) ys in
       let l : s .options .limit ≤ 10000 = limit-fits s (new .accepted-setup) in
       let m : s .options .budget ≤ 1000 = budget-fits s (new .accepted-setup) in
-      let each : ℕ = 3 + 3 * s .options .budget in
       let few : 3 + 3 * s .options .budget ≤ 3003 = omega arith in
       let one : s .options .limit * (3 + 3 * s .options .budget) ≤ 10000 * (3 + 3 * s .options .budget) = mul-le-mul-right (3 + 3 * s .options .budget) l in
       omega arith

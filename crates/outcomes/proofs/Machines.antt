@@ -5,9 +5,12 @@ use mathlib.Core.Bool.{Bool, true, false, cond}
 use mathlib.Core.List.{List, [], _∷_}
 use Prim.Native.Nat.{ℕ, _+_, _<_}
 use native.Mathlib.Omega.{arith}
+use lib.Dec.{ltb}
 use lib.Ieee.{Float}
+use borrow.Author.Tests.{lt-ltb}
 use Rattle.outcomes.specs.Outcomes.{Told}
-use Rattle.outcomes.specs.Asking.{Run, ask, end, Search, Reply, respond, shown, reported, isOver, rest, outcomes, after, accepted, reached, played}
+use Rattle.outcomes.specs.Counters.{counted}
+use Rattle.outcomes.specs.Asking.{Run, ask, end, Search, Over, Reply, respond, shown, reported, isOver, rest, outcomes, after, accepted, reached, played}
 
 module _ {K : Type 0} where
   responds : (r : Search K) (f g : Float) → respond (rest r) f g ≡ respond r f g
@@ -54,6 +57,26 @@ module _ {K : Type 0} where
   pub picks : {A : Type 0} (d : A → Seen K) (b : Bool) (x y : A) (m n : Search K) → d x ≡ seen m → d y ≡ seen n → d (cond b x y) ≡ seen (cond b m n)
   picks d true x y m n p q = p
   picks d false x y m n p q = q
+
+-- a counter that an accepted answer raises
+pub adds-one : (a : Bool) (n m k : ℕ) → n < 4294967295 → k ≡ cond a (counted n) n → k + m ≡ n + (cond a 1 0 + m)
+unfolding counted
+adds-one true n m k h e =
+    let l : ltb n 4294967295 ≡ true = lt-ltb n 4294967295 h in
+    let p : k ≡ n + 1 = rw l at e in
+    omega arith
+adds-one false n m k h e = omega arith
+
+-- a count below a limit that is a u32 goes up by one
+pub counts-on : (n l : ℕ) → l < 4294967296 → n < l → counted n ≡ n + 1
+unfolding counted
+counts-on n l h k = rw (lt-ltb n 4294967295 (omega arith))
+
+-- a search that is over accepts nothing
+pub none-more : {K : Type 0} (o : Over K) (finite : Float → Float → Bool) (ys : List Reply) → accepted finite (end o) ys ≡ 0
+unfolding accepted
+none-more o finite [] = refl
+none-more o finite (y ∷ ys) = refl
 
 -- ---- any list of answers
 -- `Fit` is what a state has to meet for its steps to be the rules', and what its steps keep
