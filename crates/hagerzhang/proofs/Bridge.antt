@@ -203,6 +203,10 @@ follows s h f g r e =
     let z = ap denoteStep e ∙ answers s h f g in
     record { tells = ap (λ (p : Seen Report). p .1) z; leaves = ap (λ (p : Seen Report). p .0) z }
 
+-- what `answer` promises of its result
+pub promised : (s : Search) (f g : Float) (r : Step) → r ≡ answerOf s f g → (r ≡ answerOf s f g) × (s .setup .options .limit < 4294967296 → Follows s f g r)
+promised s f g r e = (e, λ h. follows s h f g r e)
+
 -- ---- `start`
 pub starts-whole : (s : Setup) → meaning s (Open Low) ≡ search s
 unfolding meaning keptOf stepOf reportOf onAnswer search askHigh

@@ -556,8 +556,10 @@ fn taken(s: Setup, n: Evaluations, waiting: Waiting, f: f64, g: f64) -> Step
     }
 }
 
-fn answered(s: Search, f: f64, g: f64) -> Step
-    ensures { λ r. ⌜ r ≡ answerOf s f g ⌝ }
+// One answer, cost f and slope g: the search with it, and what comes next. It is the step that 01's rules take (the limit is below 2^32, as every u32 is).
+pub fn answer(s: Search, f: f64, g: f64) -> Step
+    ensures exact { λ r. ⌜ r ≡ answerOf s f g ⌝ }
+    ensures rules { λ r. ⌜ (s .setup .options .limit < 4294967296 → Follows s f g r) ⌝ }
 {
     let stage = s.stage;
     let setup = s.setup;
@@ -569,14 +571,6 @@ fn answered(s: Search, f: f64, g: f64) -> Step
             outcome: Outcome::Refused(Refusal::AlreadyOver),
         },
     }
-}
-
-// One answer, cost f and slope g: the search with it, and what comes next. It is the step that 01's rules take (the limit is below 2^32, as every u32 is).
-pub fn answer(s: Search, f: f64, g: f64) -> Step
-    ensures exact { λ r. ⌜ r ≡ answerOf s f g ⌝ }
-    ensures rules { λ r. ⌜ (s .setup .options .limit < 4294967296 → Follows s f g r) ⌝ }
-{
-    answered(s, f, g)
 }
 
 fn params_finite(p: Params) -> bool
