@@ -44,6 +44,7 @@ table =
 abbrev pub entryOf : ℕ → Float
 entryOf i = ofInt binary64 (getD table i (pos 0))
 
+-- the curve whose c0 is the table's entry i
 abbrev pub curveAt : ℕ → Curve
 curveAt i = record { c0 = entryOf i; c1 = entryOf (i + 1); c2 = entryOf (i + 2); c3 = entryOf (i + 3); c4 = entryOf (i + 4) }
 

@@ -8,16 +8,18 @@ use native.Mathlib.Omega.{arith}
 use lib.Ieee.{Float}
 use lib.Ieee.Scale.{finite}
 use Rattle.floats.specs.Arithmetic.{_<ᶠ_}
-use Rattle.outcomes.specs.Asking.{Run, leaving}
+use Rattle.outcomes.specs.Asking.{Run, Search, leaving}
 use Rattle.outcomes.proofs.Ends.{Ends, at-end, at-ask, ends-within, ends-if}
 use Rattle.hagerzhang.specs.declared.Point.{Point}
 use Rattle.hagerzhang.specs.declared.Bracket.{Bracket}
 use Rattle.hagerzhang.specs.declared.Setup.{Setup}
+use Rattle.hagerzhang.specs.declared.Judged.{Judged}
+use Rattle.hagerzhang.specs.declared.Judged.the-variants.{Holds, Fails}
 use Rattle.hagerzhang.specs.declared.Came.{Came}
 use Rattle.hagerzhang.specs.declared.Came.the-variants.{To, On}
 use Rattle.hagerzhang.specs.declared.Further.{Further}
 use Rattle.hagerzhang.specs.declared.Further.the-variants.{Nothing, At}
-use Rattle.hagerzhang.specs.Rules.{point, bracket, answerFinite, middleOf, narrowedOf, updatedOf, secantOf, S2, S3, L2, orElse, bestOf, wolfeHolds, approximateHolds, asking, trial, between, U3, update, further, afterS4, afterS1, iteration, noneYet, verdict, rounds, askStart, askHigh, search}
+use Rattle.hagerzhang.specs.Rules.{point, bracket, answerFinite, middleOf, narrowedOf, updatedOf, secantOf, S2, S3, L2, orElse, bestOf, judgedOf, asking, trial, between, U3, update, further, afterS4, afterS1, iteration, Report, noneYet, reportOf, decided, verdict, rounds, askStart, askHigh, search}
 
 module _ {K R : Type 0} (s : Setup) (refuse : ℕ → R) (k : K) where
   abbrev B : ℕ
@@ -67,16 +69,17 @@ module _ (s : Setup) where
   abbrev each : ℕ
   each = 3 + 3 * s .options .budget
 
+  decided-ends : {n : ℕ} (k : Report) (x : Float) (go : Search Report) (j : Judged) → Ends n go → Ends n (decided k x go j)
+  unfolding decided
+  decided-ends k x go (Holds v) e = at-end
+  decided-ends k x go Fails e = e
+
   pub rounds-end : (n : ℕ) (w : Bracket) (c : Point) (i : ℕ) → Ends (n * each) (rounds s n w c i)
   unfolding rounds verdict
-  rounds-end zero w c i =
-      let p = bestOf (w .a) (w .b) c in
-      ends-if (wolfeHolds s p) at-end (ends-if (approximateHolds s p) at-end at-end)
+  rounds-end zero w c i = decided-ends (reportOf s w c i) _ _ (judgedOf s (bestOf (w .a) (w .b) c)) at-end
   rounds-end (suc n) w c i =
-      let p = bestOf (w .a) (w .b) c in
-      ends-if (wolfeHolds s p) at-end
-      (ends-if (approximateHolds s p) at-end
-      (ends-within (iteration-ends s _ _ (n * each) w _ (λ v. rounds-end n v c (i + 1))) (suc n * each) (let e : suc n * each ≡ n * each + each = suc-mul n each in omega arith)))
+      decided-ends (reportOf s w c i) _ _ (judgedOf s (bestOf (w .a) (w .b) c))
+      (ends-within (iteration-ends s _ _ (n * each) w _ (λ v. rounds-end n v c (i + 1))) (suc n * each) (let e : suc n * each ≡ n * each + each = suc-mul n each in omega arith))
 
   abbrev bound : ℕ
   bound = s .options .limit * each

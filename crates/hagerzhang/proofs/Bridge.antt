@@ -11,14 +11,13 @@ use lib.Ieee.Scale.{finite}
 use borrow.Author.Tests.{leb-true, leb-false, lt-ltb, ne-eqb}
 use Rattle.floats.specs.Arithmetic.{_<ᶠ_}
 use Rattle.numbers.specs.Answers.{Answer, value, refused, unless_refuse_else_}
-use Rattle.outcomes.specs.Outcomes.{wolfe, approximate, stop, limit, refusal, told}
+use Rattle.outcomes.specs.Outcomes.{limit, told}
 use Rattle.outcomes.specs.Asking.{Search as Run, end, over, leaving, respond, shown, firstOf, rest}
 use Rattle.outcomes.specs.Counters.{counted, evaluations, iterations}
 use Rattle.outcomes.proofs.Machines.{Seen, seen, picks, counts-on}
 use Rattle.outcomes.specs.declared.Evaluations.{Evaluations}
 use Rattle.outcomes.specs.declared.Outcome.the-variants.{Ask, Limit, Refused}
 use Rattle.outcomes.specs.declared.Refusal.the-variants.{SuppliedNotFinite, OutOfRange, ResultNotFinite}
-use Rattle.outcomes.specs.declared.Verdict.the-variants.{Wolfe, Approximate}
 use Rattle.hagerzhang.specs.declared.Point.{Point}
 use Rattle.hagerzhang.specs.declared.Bracket.{Bracket}
 use Rattle.hagerzhang.specs.declared.Options.{Options}
@@ -27,6 +26,7 @@ use Rattle.hagerzhang.specs.declared.Came.{Came}
 use Rattle.hagerzhang.specs.declared.Came.the-variants.{To, On}
 use Rattle.hagerzhang.specs.declared.Further.{Further}
 use Rattle.hagerzhang.specs.declared.Further.the-variants.{Nothing, At}
+use Rattle.hagerzhang.specs.declared.Judged.{Judged}
 use Rattle.hagerzhang.specs.declared.Judged.the-variants.{Holds, Fails}
 use Rattle.hagerzhang.specs.declared.Finished.{Finished}
 use Rattle.hagerzhang.specs.declared.Rule.{Rule}
@@ -46,10 +46,10 @@ use Rattle.hagerzhang.specs.declared.Search.{Search}
 use Rattle.hagerzhang.specs.declared.Step.{Step}
 use Rattle.hagerzhang.specs.declared.Started.{Started}
 use Rattle.hagerzhang.specs.declared.Started.the-variants.{Began, NoSearch}
-use Rattle.hagerzhang.specs.Parameters.{suppliedFinite, inRanges, epsilonK, levelOf, setupOf, accepted}
-use Rattle.hagerzhang.specs.Rules.{point, answerFinite, middleOf, secantOf, S2, S3, L2, orElse, bestOf, wolfeHolds, approximateHolds, judgedOf, trial, between, U3, update, further, afterS4, afterS1, iteration, Report, reportOf as ruleReport, verdict, rounds, askStart, askHigh, search}
+use Rattle.hagerzhang.specs.Parameters.{suppliedFinite, inRanges, epsilonK, levelOf, setupOf}
+use Rattle.hagerzhang.specs.Rules.{point, answerFinite, middleOf, secantOf, S2, S3, L2, orElse, bestOf, judgedOf, trial, between, U3, update, further, afterS4, afterS1, iteration, Report, reportOf, decided, verdict, rounds, askStart, askHigh, search}
 use Rattle.hagerzhang.specs.Machine.{comesOf, leftOf, attemptOf, probeOf, triedBy, afterS4Of, afterS1Of, followBy, onwardOf, openedOf, closedOf, outlookBy, outlookOf, madeOf, settledOf, wentOf, reactOf, keptOf, takenOf, answerBy, answerOf, fresh, startOf}
-use Rattle.hagerzhang.specs.Meaning.{lastOf, reportOf, ended, after, onAsked, onAnswer, askedStep, stepOf, meaning, meant, startTold, startSays, begun, Starts, Follows}
+use Rattle.hagerzhang.specs.Meaning.{lastOf, keptReport, ended, afterTrial, onAsked, onAnswer, askedStep, stepOf, meaning, meant, startTold, startSays, begun, Starts, Follows}
 
 denote : Setup → Next → Seen Report
 denote s n = (meaning s (n .stage), told (n .outcome))
@@ -70,8 +70,8 @@ module _ (s : Setup) (fin : Finished) where
   went t = denote s (wentOf s fin t)
 
   -- a trial (5)
-  tries : (rule : Rule) (w : Bracket) (x : Float) → moved (attemptOf w rule x) ≡ seen (trial s (leaving k) k x (λ c. update s (leaving k) k w c (after s fin rule x)))
-  unfolding attemptOf madeOf trial onAnswer comesOf leftOf keptOf stepOf askedStep reportOf denote seen rest shown meaning
+  tries : (rule : Rule) (w : Bracket) (x : Float) → moved (attemptOf w rule x) ≡ seen (trial s (leaving k) k x (λ c. update s (leaving k) k w c (afterTrial s fin rule x)))
+  unfolding attemptOf madeOf trial onAnswer comesOf leftOf keptOf stepOf askedStep keptReport denote seen rest shown meaning
   tries rule w x = picks moved (finite x) _ _ _ _ refl refl
 
 -- ---- the start or an iteration is finished: the verdict, the limit, and S1 of the next iteration
@@ -84,8 +84,8 @@ module _ (s : Setup) (h : s .options .limit < 4294967296) (w : Bracket) (c : Poi
 
   -- what follows the verdict, while n iterations may be begun
   onwards : ℕ → Run Report
-  onwards zero = over (ruleReport s w c i) (limit (bestOf (w .a) (w .b) c .x))
-  onwards (suc n) = iteration s (leaving (ruleReport s w c i)) (ruleReport s w c i) w (λ v. rounds s n v c (i + 1))
+  onwards zero = over (reportOf s w c i) (limit (bestOf (w .a) (w .b) c .x))
+  onwards (suc n) = iteration s (leaving (reportOf s w c i)) (reportOf s w c i) w (λ v. rounds s n v c (i + 1))
 
   round-is : (n : ℕ) → verdict s w c i (onwards n) ≡ rounds s n w c i
   unfolding onwards rounds
@@ -93,11 +93,11 @@ module _ (s : Setup) (h : s .options .limit < 4294967296) (w : Bracket) (c : Poi
   round-is (suc n) = refl
 
   limits : (n : ℕ) → n ≡ 0 → moved s done (End (Limit (done .best .x))) ≡ seen (onwards n)
-  unfolding onwards madeOf denote seen rest shown reportOf meaning
+  unfolding onwards madeOf denote seen rest shown keptReport meaning
   limits n e = rw e
 
   begins : (n : ℕ) → counted i ≡ i + 1 → n ≡ suc (N - counted i) → moved s done (attemptOf w S1 (secantOf (w .a) (w .b))) ≡ seen (onwards n)
-  unfolding onwards iteration after trial
+  unfolding onwards iteration afterTrial trial
   begins n p e = rw (e, ← p) (tries s done S1 w (secantOf (w .a) (w .b)))
 
   unjudged : moved s done (outlookBy s done Fails) ≡ seen (onwards (N - i))
@@ -111,17 +111,15 @@ module _ (s : Setup) (h : s .options .limit < 4294967296) (w : Bracket) (c : Poi
           let p : counted i ≡ i + 1 = counts-on i N h l in
           begins (N - i) p (rw p (omega arith))
 
-  judges : (a b : Bool) (go : Run Report) → moved s done (outlookBy s done Fails) ≡ seen go
-      → moved s done (outlookBy s done (cond a (Holds Wolfe) (cond b (Holds Approximate) Fails)))
-      ≡ seen (cond a (over (ruleReport s w c i) (stop wolfe (done .best .x))) (cond b (over (ruleReport s w c i) (stop approximate (done .best .x))) go))
-  unfolding outlookBy madeOf denote seen rest shown reportOf meaning
-  judges true b go e = refl
-  judges false true go e = refl
-  judges false false go e = e
+  judges : (go : Run Report) → moved s done (outlookBy s done Fails) ≡ seen go → (j : Judged)
+      → moved s done (outlookBy s done j) ≡ seen (decided (reportOf s w c i) (done .best .x) go j)
+  unfolding outlookBy decided madeOf denote seen rest shown keptReport meaning
+  judges go e (Holds v) = refl
+  judges go e Fails = e
 
   settles : denote s (settledOf s done) ≡ seen (rounds s (N - i) w c i)
-  unfolding judgedOf verdict
-  settles = judges (wolfeHolds s (done .best)) (approximateHolds s (done .best)) _ unjudged ∙ ap seen (round-is (N - i))
+  unfolding verdict
+  settles = judges (onwards (N - i)) unjudged (judgedOf s (done .best)) ∙ ap seen (round-is (N - i))
 
 -- ---- the way of an answer in an iteration
 module _ (s : Setup) (h : s .options .limit < 4294967296) (fin : Finished) where
@@ -134,34 +132,34 @@ module _ (s : Setup) (h : s .options .limit < 4294967296) (fin : Finished) where
 
   -- a further trial, or otherwise what follows
   tried : (u : Bracket) (rule : Rule) (otherwise : Then) (then : Bracket → Run Report) (f : Further) → went s fin otherwise ≡ seen (then u)
-      → ((x : Float) → then ≡ after s fin rule x) → went s fin (triedBy u rule otherwise f) ≡ seen (further s (leaving (lastOf fin)) (lastOf fin) f u then)
+      → ((x : Float) → then ≡ afterTrial s fin rule x) → went s fin (triedBy u rule otherwise f) ≡ seen (further s (leaving (lastOf fin)) (lastOf fin) f u then)
   unfolding triedBy further wentOf
   tried u rule otherwise then (At x) e same = rw (same x) (tries s fin rule u x)
   tried u rule otherwise then Nothing e same = e
 
   after-S4 : (v : Bracket) → went s fin (afterS4Of gamma (fin .bracket) v) ≡ seen (afterS4 s (leaving (lastOf fin)) (lastOf fin) (fin .bracket) v (ended s fin))
-  unfolding afterS4 after
+  unfolding afterS4 afterTrial
   after-S4 v = tried v ByL2 (Close v) (ended s fin) (L2 gamma (fin .bracket) v) (closes v) (λ x. refl)
 
   after-S1 : (c : Float) (u : Bracket) → went s fin (afterS1Of gamma (fin .bracket) c u) ≡ seen (afterS1 s (leaving (lastOf fin)) (lastOf fin) (fin .bracket) c u (ended s fin))
-  unfolding afterS1 after
+  unfolding afterS1 afterTrial
   after-S1 c u =
       tried u S4 (afterS4Of gamma (fin .bracket) u) (λ v. afterS4 s (leaving (lastOf fin)) (lastOf fin) (fin .bracket) v (ended s fin))
       (orElse (S3 (fin .bracket) c u) (S2 (fin .bracket) c u)) (after-S4 u) (λ x. refl)
 
-  follows-on : (rule : Rule) (c : Float) (u : Bracket) → went s fin (followBy gamma (fin .bracket) c u rule) ≡ seen (after s fin rule c u)
-  unfolding followBy after
+  follows-on : (rule : Rule) (c : Float) (u : Bracket) → went s fin (followBy gamma (fin .bracket) c u rule) ≡ seen (afterTrial s fin rule c u)
+  unfolding followBy afterTrial
   follows-on S1 c u = after-S1 c u
   follows-on S4 c u = after-S4 u
   follows-on ByL2 c u = closes u
 
   module _ (t : Trial) where
     abbrev goes-on : Bracket → Run Report
-    goes-on = after s fin (t .rule) (t .x)
+    goes-on = afterTrial s fin (t .rule) (t .x)
 
     -- U3 while n answers may come
     narrows : (n : ℕ) (came : Came) → went s fin (onwardOf (s .options .params) (fin .bracket) t n came) ≡ seen (U3 s (leaving (lastOf fin)) (lastOf fin) n came goes-on)
-    unfolding onwardOf wentOf probeOf madeOf U3 between meaning onAnswer comesOf leftOf keptOf stepOf askedStep reportOf denote seen rest shown
+    unfolding onwardOf wentOf probeOf madeOf U3 between meaning onAnswer comesOf leftOf keptOf stepOf askedStep keptReport denote seen rest shown
     narrows zero (To u) = follows-on (t .rule) (t .x) u
     narrows zero (On a k') = refl
     narrows (suc n) (To u) = follows-on (t .rule) (t .x) u
@@ -178,8 +176,8 @@ module _ (s : Setup) (h : s .options .limit < 4294967296) where
   -- every finite answer
   reacts : (waiting : Waiting) (f g : Float) → denote s (reactOf s waiting f g) ≡ seen (onAnswer s waiting f g)
   unfolding reactOf onAnswer
-  reacts Low f g = unfold askHigh keptOf stepOf reportOf denote seen rest shown meaning in refl
-  reacts (High a) f g = unfold askStart keptOf stepOf reportOf denote seen rest shown meaning in refl
+  reacts Low f g = unfold askHigh keptOf stepOf keptReport denote seen rest shown meaning in refl
+  reacts (High a) f g = unfold askStart keptOf stepOf keptReport denote seen rest shown meaning in refl
   reacts (Start w) f g = starts-rounds w (point (s .options .params .start) f g)
   reacts (Running fin t asked) f g = narrows s h fin t (leftOf (s .options .budget) asked) (comesOf (s .level) t asked f g)
 
@@ -209,7 +207,7 @@ promised s f g r e = (e, λ h. follows s h f g r e)
 
 -- ---- `start`
 pub starts-whole : (s : Setup) → meaning s (Open Low) ≡ search s
-unfolding meaning keptOf stepOf reportOf onAnswer search askHigh
+unfolding meaning keptOf stepOf keptReport onAnswer search askHigh
 starts-whole s = refl
 
 first-asked : (s : Setup) → told (fresh s .outcome) ≡ shown (search s)

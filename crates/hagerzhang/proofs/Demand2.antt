@@ -1,4 +1,4 @@
--- Demand 2, and of demand 3 the ends and the counts: of a search that `start` accepts, for every list of answers. Its outcomes, and the bracket, best and
+-- Demand 2, and of demand 3 that a search ends, and its counts: of a search that `start` accepts, for every list of answers. Its outcomes, and the bracket, best and
 -- iterations it holds after them, are those of 01's rules; it is over after 3 + N(3 + 3B) answers; its evaluations are the finite answers accepted.
 -- Assumes nothing.
 use mathlib.Core.Path.{_≡_, refl, sym, ap, _∙_, subst}

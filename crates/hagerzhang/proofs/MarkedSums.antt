@@ -1,6 +1,7 @@
 -- 01, "The twelve marked sums", about the rules of specs/Rules.antt and of the conditions, as one list under a single claim: `marked-sums`. Each stands as
 -- 01 writes it, in a setup that 01 accepts (`setup-accepted`); what a sum does not fix, it is proved for. Assumes nothing.
 use mathlib.Core.Path.{_≡_, refl}
+use mathlib.Core.Bool.{true}
 use mathlib.Core.Logic.{_⊎_, inl, inr}
 use mathlib.Core.List.{List, [], _∷_}
 use Prim.Native.Nat.{ℕ}
@@ -15,8 +16,8 @@ use Rattle.hagerzhang.specs.declared.Options.{Options}
 use Rattle.hagerzhang.specs.declared.Setup.{Setup}
 use Rattle.hagerzhang.specs.declared.Further.the-variants.{Nothing, At}
 use Rattle.hagerzhang.specs.declared.Came.the-variants.{To}
-use Rattle.hagerzhang.specs.Parameters.{defaultsOf, accepted}
-use Rattle.hagerzhang.specs.Rules.{point, bracket, secantOf, updatedOf, narrowedOf, S2, S3, L2, bestOver, bestOf, trial, between, U3, update, further, afterS4, afterS1, iteration}
+use Rattle.hagerzhang.specs.Parameters.{defaultsOf, admitted}
+use Rattle.hagerzhang.specs.Rules.{point, bracket, answerFinite, secantOf, updatedOf, narrowedOf, S2, S3, L2, bestOver, bestOf, trial, between, U3, update, further, afterS4, afterS1, iteration}
 
 -- "epsilon = 0, L = 1, theta = 0.5, a = (0,1,-2), b = (4,9,6) unless said." The start has cost 1 and slope -2; B is the budget.
 abbrev options : ℕ → Options
@@ -96,7 +97,7 @@ pub iterated : Asks
 iterated = iteration (setup 100) inl tt at-minimum becomes
 
 pub record MarkedSums : Type 0 where
-  pub setup-accepted : accepted (options 100) (whole 1) (minus (whole 2)) ≡ value (setup 100)
+  pub setup-accepted : (admitted (options 100) (whole 1) (minus (whole 2)) ≡ value (setup 100)) × (admitted (options 2) (whole 1) (minus (whole 2)) ≡ value (setup 2))
   -- "secant(a, b) = 1"
   pub M1 : secantOf a b ≡ whole 1
   -- "c.x = 4, and c.x = 0: unchanged"
@@ -123,7 +124,7 @@ pub record MarkedSums : Type 0 where
       × ((f g : Float) → updatedOf (whole 1) at-minimum (point (whole 1) f g) ≡ To at-minimum)
       × (S2 at-minimum (whole 1) at-minimum ≡ At nan)
       × (S3 at-minimum (whole 1) at-minimum ≡ Nothing)
-      × (left iterated ((whole 0, whole 0) ∷ []) ≡ refused 5)
+      × ((f g : Float) → answerFinite f g ≡ true → left iterated ((f, g) ∷ []) ≡ refused 5)
   -- "costs 2,2,2: best c. Costs 2,2,3: best b", whatever the steps and slopes
   pub M9 :
       (x y z p q r : Float)
@@ -136,7 +137,7 @@ pub record MarkedSums : Type 0 where
 pub marked-sums : MarkedSums
 unfolding updated-with left steps iterated iteration afterS1 afterS4 further trial between U3 updatedOf narrowedOf S2 S3 L2 bestOver add sub mul div neg le lt eq ofBits ofInt
 marked-sums = record {
-  setup-accepted = refl;
+  setup-accepted = (refl, refl);
   M1 = refl;
   M2 = λ f g. (refl, refl);
   M3 = refl;
@@ -144,7 +145,7 @@ marked-sums = record {
   M5 = (refl, refl);
   M6 = (refl, refl);
   M7 = (refl, refl);
-  M8 = (refl, λ f g. refl, refl, refl, refl);
+  M8 = (refl, λ f g. refl, refl, refl, λ f g e. rw e);
   M9 = λ x y z p q r. (refl, refl);
   M10 = conditions.m10;
   M11 = conditions.m11;

@@ -1,5 +1,5 @@
 -- The machine's own bookkeeping, which the contracts cite: nobody needs this to check 01. specs/Meaning.antt says what a state stands for in 01's
--- rules, and proofs/Demand2.antt that every step is the rules' step.
+-- rules, proofs/Bridge.antt that every step is the rules' step, and proofs/Demand2.antt the same for any list of answers.
 use Prim.Native.Nat.{ℕ, zero, suc, _-_}
 use mathlib.Core.Bool.{Bool, cond, _&&_}
 use lib.Dec.{leb, eqb}

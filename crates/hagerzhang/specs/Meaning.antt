@@ -26,7 +26,7 @@ use Rattle.hagerzhang.specs.declared.Search.{Search}
 use Rattle.hagerzhang.specs.declared.Step.{Step}
 use Rattle.hagerzhang.specs.declared.Started.{Started}
 use Rattle.hagerzhang.specs.declared.Started.the-variants.{Began, NoSearch}
-use Rattle.hagerzhang.specs.Parameters.{accepted}
+use Rattle.hagerzhang.specs.Parameters.{admitted}
 use Rattle.hagerzhang.specs.Rules.{point, answerFinite, Report, noneYet, last, U3, afterS1, afterS4, rounds, askStart, askHigh, search}
 use Rattle.hagerzhang.specs.Machine.{comesOf, leftOf, keptOf}
 
@@ -35,13 +35,13 @@ use Rattle.hagerzhang.specs.Machine.{comesOf, leftOf, keptOf}
 abbrev pub lastOf : Finished → Report
 lastOf fin = last (record { bracket = fin .bracket; best = fin .best; iterations = fin .iterations .0 })
 
-unfoldable pub reportOf : Kept → Report
-reportOf NoneYet = noneYet
-reportOf (Last fin) = lastOf fin
+unfoldable pub keptReport : Kept → Report
+keptReport NoneYet = noneYet
+keptReport (Last fin) = lastOf fin
 
 unfoldable pub stageReport : Stage → Report
-stageReport (Open waiting) = reportOf (keptOf waiting)
-stageReport (Over kept) = reportOf kept
+stageReport (Open waiting) = keptReport (keptOf waiting)
+stageReport (Over kept) = keptReport kept
 
 -- bracket, best and finished iterations, or none yet
 abbrev pub report : Search → Report
@@ -55,14 +55,14 @@ module _ (s : Setup) (fin : Finished) where
   ended v = rounds s (s .options .limit - counted (fin .iterations .0)) v (fin .start) (counted (fin .iterations .0))
 
   -- how the iteration goes on from the update of a trial at c
-  unfoldable pub after : Rule → Float → Bracket → Run Report
-  after S1 c u = afterS1 s (leaving (lastOf fin)) (lastOf fin) (fin .bracket) c u ended
-  after S4 c u = afterS4 s (leaving (lastOf fin)) (lastOf fin) (fin .bracket) u ended
-  after L2 c u = ended u
+  unfoldable pub afterTrial : Rule → Float → Bracket → Run Report
+  afterTrial S1 c u = afterS1 s (leaving (lastOf fin)) (lastOf fin) (fin .bracket) c u ended
+  afterTrial S4 c u = afterS4 s (leaving (lastOf fin)) (lastOf fin) (fin .bracket) u ended
+  afterTrial L2 c u = ended u
 
   abbrev pub onAsked : Trial → Asked → Float → Float → Run Report
   onAsked t asked f g =
-      U3 s (leaving (lastOf fin)) (lastOf fin) (leftOf (s .options .budget) asked) (comesOf (s .level) t asked f g) (after (t .rule) (t .x))
+      U3 s (leaving (lastOf fin)) (lastOf fin) (leftOf (s .options .budget) asked) (comesOf (s .level) t asked f g) (afterTrial (t .rule) (t .x))
 
 -- what a finite answer leads to, and the step that is asked
 unfoldable pub onAnswer : Setup → Waiting → Float → Float → Run Report
@@ -82,8 +82,8 @@ stepOf s (Start w) = s .options .params .start
 stepOf s (Running fin t asked) = askedStep t asked
 
 unfoldable pub meaning : Setup → Stage → Run Report
-meaning s (Open waiting) = question answerFinite (leaving (reportOf (keptOf waiting))) (reportOf (keptOf waiting)) (stepOf s waiting) (onAnswer s waiting)
-meaning s (Over kept) = over (reportOf kept) (refusal 8)
+meaning s (Open waiting) = question answerFinite (leaving (keptReport (keptOf waiting))) (keptReport (keptOf waiting)) (stepOf s waiting) (onAnswer s waiting)
+meaning s (Over kept) = over (keptReport kept) (refusal 8)
 
 abbrev pub meant : Search → Run Report
 meant s = meaning (s .setup) (s .stage)
@@ -104,8 +104,8 @@ startSays (Began r) = told (r .outcome)
 startSays (NoSearch k) = ends (refusal (numberOf k))
 
 pub record Starts (o : Options) (f0 s0 : Float) (r : Started) : Type 0 where
-  pub stands-for : startTold r ≡ begun (accepted o f0 s0)
-  pub tells-first : startSays r ≡ firstOf (begun (accepted o f0 s0))
+  pub stands-for : startTold r ≡ begun (admitted o f0 s0)
+  pub tells-first : startSays r ≡ firstOf (begun (admitted o f0 s0))
 
 -- ---- `answer`: what is told is what the rules tell at this answer, and what is left is what they leave
 

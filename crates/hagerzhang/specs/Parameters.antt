@@ -80,8 +80,8 @@ abbrev pub setupOf : Options → Float → Float → Setup
 setupOf o f0 s0 = record { options = o; f0 = f0; s0 = s0; level = levelOf o f0 }
 
 -- the setup of the search that starts, or the first refusal that applies
-abbrev pub accepted : Options → Float → Float → Answer Setup
-accepted o f0 s0 =
+abbrev pub admitted : Options → Float → Float → Answer Setup
+admitted o f0 s0 =
     unless (suppliedFinite o f0 s0) refuse 2 else
     unless (inRanges o) refuse 3 else
     unless (finite (epsilonK o f0) && finite (levelOf o f0)) refuse 4 else

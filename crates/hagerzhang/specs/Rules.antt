@@ -6,7 +6,7 @@ use lib.Ieee.{Float, binary64, ofBits}
 use lib.Ieee.Scale.{finite}
 use Rattle.floats.specs.Arithmetic.{_⊕_, _⊖_, _⊗_, _⊘_, _<ᶠ_, _≤ᶠ_, _>ᶠ_, _≥ᶠ_, 0ᶠ, 1ᶠ, 2ᶠ}
 use Rattle.numbers.specs.Numbers.{absOf}
-use Rattle.outcomes.specs.Outcomes.{wolfe, approximate, stop, limit}
+use Rattle.outcomes.specs.Outcomes.{verdictWord, stop, limit}
 use Rattle.outcomes.specs.Asking.{Run, end, Search, over, leaving, question}
 use Rattle.outcomes.specs.declared.Verdict.{Verdict}
 use Rattle.outcomes.specs.declared.Verdict.the-variants.{Wolfe, Approximate}
@@ -92,7 +92,7 @@ lowest p q r = p .f ≤ᶠ q .f && p .f ≤ᶠ r .f
 unfoldable pub bestOver : Point → Point → Point → Point → Point
 bestOver old a b c = cond (lowest c a b) c (cond (lowest b a c) b (cond (lowest a b c) a old))
 
--- Nothing is taken before: for finite costs one of the three always is, whatever stood there (proofs/Unreachable.antt), so a stands in.
+-- 01 says nothing for the case that no test holds. With finite costs one always does (`best-is-one`), so the a in that place is never seen.
 abbrev pub bestOf : Point → Point → Point → Point
 bestOf a b c = bestOver a a b c
 
@@ -164,9 +164,15 @@ pub record Last : Type 0 where
   pub best : Point
   pub iterations : ℕ
 
+-- with `noneYet` no iteration is finished either
 pub data Report : Type 0 where
   noneYet : Report
   last : Last → Report
+
+-- a verdict stops the search at the best step; with none it goes on
+unfoldable pub decided : Report → Float → Search Report → Judged → Search Report
+decided k x go (Holds v) = over k (stop (verdictWord v) x)
+decided k x go Fails = go
 
 module _ (s : Setup) where
   abbrev pub reportOf : Bracket → Point → ℕ → Report
@@ -176,10 +182,7 @@ module _ (s : Setup) where
   unfoldable pub verdict : Bracket → Point → ℕ → Search Report → Search Report
   verdict w c i go =
       let p = bestOf (w .a) (w .b) c in
-      let k = reportOf w c i in
-      cond (wolfeHolds s p) (over k (stop wolfe (p .x)))
-      (cond (approximateHolds s p) (over k (stop approximate (p .x)))
-      go)
+      decided (reportOf w c i) (p .x) go (judgedOf s p)
 
   -- "After an iteration the verdict is tested first, then the limit; only then is the next step worked out." n iterations may still be begun.
   unfoldable pub rounds : ℕ → Bracket → Point → ℕ → Search Report
