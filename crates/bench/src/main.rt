@@ -3,15 +3,15 @@
 use curves::Curve;
 use curves::Known;
 use hagerzhang::Kept;
-use hagerzhang::Options;
-use hagerzhang::Params;
 use hagerzhang::Search;
-use hagerzhang::Setup;
 use hagerzhang::Stage;
 use hagerzhang::Started;
 use libc::STDOUT_FILENO;
 use outcomes::Evaluations;
 use outcomes::Outcome;
+use rules::Options;
+use rules::Params;
+use rules::Setup;
 
 // The sum of the steps, and how many answers are left to give.
 struct Tally {
@@ -20,7 +20,7 @@ struct Tally {
 }
 
 fn chosen() -> Options {
-    let d = hagerzhang::defaults();
+    let d = rules::defaults();
     let p = d.params;
     Options {
         params: Params {

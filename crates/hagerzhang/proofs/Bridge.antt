@@ -18,19 +18,19 @@ use Rattle.outcomes.proofs.Machines.{Seen, seen, picks, counts-on}
 use Rattle.outcomes.specs.declared.Evaluations.{Evaluations}
 use Rattle.outcomes.specs.declared.Outcome.the-variants.{Ask, Limit, Refused}
 use Rattle.outcomes.specs.declared.Refusal.the-variants.{SuppliedNotFinite, OutOfRange, ResultNotFinite}
-use Rattle.hagerzhang.specs.declared.Point.{Point}
-use Rattle.hagerzhang.specs.declared.Bracket.{Bracket}
-use Rattle.hagerzhang.specs.declared.Options.{Options}
-use Rattle.hagerzhang.specs.declared.Setup.{Setup}
-use Rattle.hagerzhang.specs.declared.Came.{Came}
-use Rattle.hagerzhang.specs.declared.Came.the-variants.{To, On}
-use Rattle.hagerzhang.specs.declared.Further.{Further}
-use Rattle.hagerzhang.specs.declared.Further.the-variants.{Nothing, At}
-use Rattle.hagerzhang.specs.declared.Judged.{Judged}
-use Rattle.hagerzhang.specs.declared.Judged.the-variants.{Holds, Fails}
+use Rattle.rules.specs.declared.Point.{Point}
+use Rattle.rules.specs.declared.Bracket.{Bracket}
+use Rattle.rules.specs.declared.Options.{Options}
+use Rattle.rules.specs.declared.Setup.{Setup}
+use Rattle.rules.specs.declared.Came.{Came}
+use Rattle.rules.specs.declared.Came.the-variants.{To, On}
+use Rattle.rules.specs.declared.Further.{Further}
+use Rattle.rules.specs.declared.Further.the-variants.{Nothing, At}
+use Rattle.rules.specs.declared.Judged.{Judged}
+use Rattle.rules.specs.declared.Judged.the-variants.{Holds, Fails}
 use Rattle.hagerzhang.specs.declared.Finished.{Finished}
 use Rattle.hagerzhang.specs.declared.Rule.{Rule}
-use Rattle.hagerzhang.specs.declared.Rule.the-variants.{S1, S4, L2 as ByL2}
+use Rattle.hagerzhang.specs.declared.Rule.the-variants.{S1 as ByS1, S4 as ByS4, L2 as ByL2}
 use Rattle.hagerzhang.specs.declared.Trial.{Trial}
 use Rattle.hagerzhang.specs.declared.Asked.{Asked}
 use Rattle.hagerzhang.specs.declared.Waiting.{Waiting}
@@ -46,8 +46,8 @@ use Rattle.hagerzhang.specs.declared.Search.{Search}
 use Rattle.hagerzhang.specs.declared.Step.{Step}
 use Rattle.hagerzhang.specs.declared.Started.{Started}
 use Rattle.hagerzhang.specs.declared.Started.the-variants.{Began, NoSearch}
-use Rattle.hagerzhang.specs.Parameters.{suppliedFinite, inRanges, epsilonK, levelOf, setupOf}
-use Rattle.hagerzhang.specs.Rules.{point, answerFinite, middleOf, secantOf, S2, S3, L2, orElse, bestOf, judgedOf, trial, between, U3, update, further, afterS4, afterS1, iteration, Report, reportOf, decided, verdict, rounds, askStart, askHigh, search}
+use Rattle.rules.specs.Parameters.{suppliedFinite, inRanges, epsilonK, levelOf, setupOf}
+use Rattle.rules.specs.Rules.{point, answerFinite, middleOf, secantOf, S4, L2, bestOf, judgedOf, trial, between, U3, update, further, afterS4, afterS1, iteration, Report, reportOf, decided, verdict, rounds, askStart, askHigh, search}
 use Rattle.hagerzhang.specs.Machine.{comesOf, leftOf, attemptOf, probeOf, triedBy, afterS4Of, afterS1Of, followBy, onwardOf, openedOf, closedOf, outlookBy, outlookOf, madeOf, settledOf, wentOf, reactOf, keptOf, takenOf, answerBy, answerOf, fresh, startOf}
 use Rattle.hagerzhang.specs.Meaning.{lastOf, keptReport, ended, afterTrial, onAsked, onAnswer, askedStep, stepOf, meaning, meant, startTold, startSays, begun, Starts, Follows}
 
@@ -96,15 +96,15 @@ module _ (s : Setup) (h : s .options .limit < 4294967296) (w : Bracket) (c : Poi
   unfolding onwards madeOf denote seen rest shown keptReport meaning
   limits n e = rw e
 
-  begins : (n : ℕ) → counted i ≡ i + 1 → n ≡ suc (N - counted i) → moved s done (attemptOf w S1 (secantOf (w .a) (w .b))) ≡ seen (onwards n)
+  begins : (n : ℕ) → counted i ≡ i + 1 → n ≡ suc (N - counted i) → moved s done (attemptOf w ByS1 (secantOf (w .a) (w .b))) ≡ seen (onwards n)
   unfolding onwards iteration afterTrial trial
-  begins n p e = rw (e, ← p) (tries s done S1 w (secantOf (w .a) (w .b)))
+  begins n p e = rw (e, ← p) (tries s done ByS1 w (secantOf (w .a) (w .b)))
 
   unjudged : moved s done (outlookBy s done Fails) ≡ seen (onwards (N - i))
   unfolding outlookBy
   unjudged = go (leb N i) refl
     where
-      go : (b : Bool) → leb N i ≡ b → moved s done (cond b (End (Limit (done .best .x))) (attemptOf w S1 (secantOf (w .a) (w .b)))) ≡ seen (onwards (N - i))
+      go : (b : Bool) → leb N i ≡ b → moved s done (cond b (End (Limit (done .best .x))) (attemptOf w ByS1 (secantOf (w .a) (w .b)))) ≡ seen (onwards (N - i))
       go true e = limits (N - i) (let l : N ≤ i = leb-true N i e in omega arith)
       go false e =
           let l : i < N = leb-false N i e in
@@ -144,13 +144,13 @@ module _ (s : Setup) (h : s .options .limit < 4294967296) (fin : Finished) where
   after-S1 : (c : Float) (u : Bracket) → went s fin (afterS1Of gamma (fin .bracket) c u) ≡ seen (afterS1 s (leaving (lastOf fin)) (lastOf fin) (fin .bracket) c u (ended s fin))
   unfolding afterS1 afterTrial
   after-S1 c u =
-      tried u S4 (afterS4Of gamma (fin .bracket) u) (λ v. afterS4 s (leaving (lastOf fin)) (lastOf fin) (fin .bracket) v (ended s fin))
-      (orElse (S3 (fin .bracket) c u) (S2 (fin .bracket) c u)) (after-S4 u) (λ x. refl)
+      tried u ByS4 (afterS4Of gamma (fin .bracket) u) (λ v. afterS4 s (leaving (lastOf fin)) (lastOf fin) (fin .bracket) v (ended s fin))
+      (S4 (fin .bracket) c u) (after-S4 u) (λ x. refl)
 
   follows-on : (rule : Rule) (c : Float) (u : Bracket) → went s fin (followBy gamma (fin .bracket) c u rule) ≡ seen (afterTrial s fin rule c u)
   unfolding followBy afterTrial
-  follows-on S1 c u = after-S1 c u
-  follows-on S4 c u = after-S4 u
+  follows-on ByS1 c u = after-S1 c u
+  follows-on ByS4 c u = after-S4 u
   follows-on ByL2 c u = closes u
 
   module _ (t : Trial) where

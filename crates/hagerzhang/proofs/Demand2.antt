@@ -20,8 +20,8 @@ use Rattle.outcomes.proofs.Branches.{either, by-test, and-first, and-second}
 use Rattle.outcomes.proofs.Machines as machines
 use Rattle.outcomes.specs.declared.Evaluations.{Evaluations}
 use Rattle.outcomes.specs.declared.Refusal.the-variants.{SuppliedNotFinite, OutOfRange, ResultNotFinite}
-use Rattle.hagerzhang.specs.declared.Options.{Options}
-use Rattle.hagerzhang.specs.declared.Setup.{Setup}
+use Rattle.rules.specs.declared.Options.{Options}
+use Rattle.rules.specs.declared.Setup.{Setup}
 use Rattle.hagerzhang.specs.declared.Kept.{Kept}
 use Rattle.hagerzhang.specs.declared.Waiting.{Waiting}
 use Rattle.hagerzhang.specs.declared.Stage.{Stage}
@@ -30,12 +30,12 @@ use Rattle.hagerzhang.specs.declared.Search.{Search}
 use Rattle.hagerzhang.specs.declared.Step.{Step}
 use Rattle.hagerzhang.specs.declared.Started.{Started}
 use Rattle.hagerzhang.specs.declared.Started.the-variants.{Began, NoSearch}
-use Rattle.hagerzhang.specs.Parameters.{suppliedFinite, wolfeInRange, factorsInRange, boundsInRange, countsInRange, inRanges, epsilonK, levelOf, setupOf}
-use Rattle.hagerzhang.specs.Rules.{answerFinite, Report, search}
+use Rattle.rules.specs.Parameters.{suppliedFinite, wolfeInRange, factorsInRange, boundsInRange, countsInRange, inRanges, epsilonK, levelOf, setupOf}
+use Rattle.rules.specs.Rules.{answerFinite, Report, search}
 use Rattle.hagerzhang.specs.Machine.{takenOf, answerBy, answerOf, fresh, startOf}
 use Rattle.hagerzhang.specs.Meaning.{stageReport, report, meaning, meant, Follows}
 use Rattle.hagerzhang.proofs.Bridge.{follows, starts, starts-whole}
-use Rattle.hagerzhang.proofs.Bounds.{search-within}
+use Rattle.rules.proofs.Bounds.{search-within}
 
 -- ---- the machine, one answer at a time
 abbrev next : Search → Float → Float → Search

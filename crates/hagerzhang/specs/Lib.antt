@@ -1,4 +1,2 @@
-pub mod Parameters
-pub mod Rules
 pub mod Machine
 pub mod Meaning

@@ -12,22 +12,22 @@ use Rattle.outcomes.specs.declared.Outcome.{Outcome}
 use Rattle.outcomes.specs.declared.Outcome.the-variants.{Ask, Stop, Limit, Refused}
 use Rattle.outcomes.specs.declared.Refusal.the-variants.{SuppliedNotFinite, OutOfRange, ResultNotFinite, StepNotFinite, BudgetSpent, StepNotBetween, AlreadyOver}
 use Rattle.outcomes.specs.Counters.{counted, evaluations, iterations}
-use Rattle.hagerzhang.specs.declared.Point.{Point}
-use Rattle.hagerzhang.specs.declared.Bracket.{Bracket}
-use Rattle.hagerzhang.specs.declared.Params.{Params}
-use Rattle.hagerzhang.specs.declared.Options.{Options}
-use Rattle.hagerzhang.specs.declared.Setup.{Setup}
-use Rattle.hagerzhang.specs.declared.Came.{Came}
-use Rattle.hagerzhang.specs.declared.Came.the-variants.{To, On}
-use Rattle.hagerzhang.specs.declared.Further.{Further}
-use Rattle.hagerzhang.specs.declared.Further.the-variants.{Nothing, At}
-use Rattle.hagerzhang.specs.declared.Judged.{Judged}
-use Rattle.hagerzhang.specs.declared.Judged.the-variants.{Holds, Fails}
+use Rattle.rules.specs.declared.Point.{Point}
+use Rattle.rules.specs.declared.Bracket.{Bracket}
+use Rattle.rules.specs.declared.Params.{Params}
+use Rattle.rules.specs.declared.Options.{Options}
+use Rattle.rules.specs.declared.Setup.{Setup}
+use Rattle.rules.specs.declared.Came.{Came}
+use Rattle.rules.specs.declared.Came.the-variants.{To, On}
+use Rattle.rules.specs.declared.Further.{Further}
+use Rattle.rules.specs.declared.Further.the-variants.{Nothing, At}
+use Rattle.rules.specs.declared.Judged.{Judged}
+use Rattle.rules.specs.declared.Judged.the-variants.{Holds, Fails}
 use Rattle.hagerzhang.specs.declared.Finished.{Finished}
 use Rattle.hagerzhang.specs.declared.Kept.{Kept}
 use Rattle.hagerzhang.specs.declared.Kept.the-variants.{NoneYet, Last}
 use Rattle.hagerzhang.specs.declared.Rule.{Rule}
-use Rattle.hagerzhang.specs.declared.Rule.the-variants.{S1, S4, L2 as ByL2}
+use Rattle.hagerzhang.specs.declared.Rule.the-variants.{S1 as ByS1, S4 as ByS4, L2 as ByL2}
 use Rattle.hagerzhang.specs.declared.Trial.{Trial}
 use Rattle.hagerzhang.specs.declared.Ends.{Ends}
 use Rattle.hagerzhang.specs.declared.Asked.{Asked}
@@ -45,8 +45,8 @@ use Rattle.hagerzhang.specs.declared.Search.{Search}
 use Rattle.hagerzhang.specs.declared.Step.{Step}
 use Rattle.hagerzhang.specs.declared.Started.{Started}
 use Rattle.hagerzhang.specs.declared.Started.the-variants.{Began, NoSearch}
-use Rattle.hagerzhang.specs.Parameters.{suppliedFinite, inRanges, epsilonK, levelOf, setupOf}
-use Rattle.hagerzhang.specs.Rules.{point, bracket, answerFinite, updatedOf, middleOf, narrowedOf, secantOf, S2, S3, L2, orElse, bestOf, judgedOf}
+use Rattle.rules.specs.Parameters.{suppliedFinite, inRanges, epsilonK, levelOf, setupOf}
+use Rattle.rules.specs.Rules.{point, bracket, answerFinite, updatedOf, middleOf, narrowedOf, secantOf, S4, L2, bestOf, judgedOf}
 
 abbrev pub trialAt : Rule → Float → Trial
 trialAt rule x = record { rule = rule; x = x }
@@ -83,11 +83,11 @@ abbrev pub afterS4Of : Float → Bracket → Bracket → Then
 afterS4Of gamma w v = triedBy v ByL2 (Close v) (L2 gamma w v)
 
 abbrev pub afterS1Of : Float → Bracket → Float → Bracket → Then
-afterS1Of gamma w c u = triedBy u S4 (afterS4Of gamma w u) (orElse (S3 w c u) (S2 w c u))
+afterS1Of gamma w c u = triedBy u ByS4 (afterS4Of gamma w u) (S4 w c u)
 
 unfoldable pub followBy : Float → Bracket → Float → Bracket → Rule → Then
-followBy gamma w c u S1 = afterS1Of gamma w c u
-followBy gamma w c u S4 = afterS4Of gamma w u
+followBy gamma w c u ByS1 = afterS1Of gamma w c u
+followBy gamma w c u ByS4 = afterS4Of gamma w u
 followBy gamma w c u ByL2 = Close u
 
 abbrev pub followOf : Float → Bracket → Trial → Bracket → Then
@@ -112,7 +112,7 @@ unfoldable pub outlookBy : Setup → Finished → Judged → Move
 outlookBy s last (Holds v) = End (Stop v (last .best .x))
 outlookBy s last Fails =
     cond (leb (s .options .limit) (last .iterations .0)) (End (Limit (last .best .x)))
-    (attemptOf (last .bracket) S1 (secantOf (last .bracket .a) (last .bracket .b)))
+    (attemptOf (last .bracket) ByS1 (secantOf (last .bracket .a) (last .bracket .b)))
 
 abbrev pub outlookOf : Setup → Finished → Move
 outlookOf s last = outlookBy s last (judgedOf s (last .best))

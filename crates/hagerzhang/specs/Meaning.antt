@@ -6,10 +6,10 @@ use Rattle.numbers.specs.Answers.{Answer, value, refused}
 use Rattle.outcomes.specs.Outcomes.{refusal, Told, ends, numberOf, told}
 use Rattle.outcomes.specs.Asking.{Search as Run, over, leaving, question, respond, shown, firstOf, rest}
 use Rattle.outcomes.specs.Counters.{counted}
-use Rattle.hagerzhang.specs.declared.Point.{Point}
-use Rattle.hagerzhang.specs.declared.Bracket.{Bracket}
-use Rattle.hagerzhang.specs.declared.Options.{Options}
-use Rattle.hagerzhang.specs.declared.Setup.{Setup}
+use Rattle.rules.specs.declared.Point.{Point}
+use Rattle.rules.specs.declared.Bracket.{Bracket}
+use Rattle.rules.specs.declared.Options.{Options}
+use Rattle.rules.specs.declared.Setup.{Setup}
 use Rattle.hagerzhang.specs.declared.Finished.{Finished}
 use Rattle.hagerzhang.specs.declared.Kept.{Kept}
 use Rattle.hagerzhang.specs.declared.Kept.the-variants.{NoneYet, Last}
@@ -26,8 +26,8 @@ use Rattle.hagerzhang.specs.declared.Search.{Search}
 use Rattle.hagerzhang.specs.declared.Step.{Step}
 use Rattle.hagerzhang.specs.declared.Started.{Started}
 use Rattle.hagerzhang.specs.declared.Started.the-variants.{Began, NoSearch}
-use Rattle.hagerzhang.specs.Parameters.{admitted}
-use Rattle.hagerzhang.specs.Rules.{point, answerFinite, Report, noneYet, last, U3, afterS1, afterS4, rounds, askStart, askHigh, search}
+use Rattle.rules.specs.Parameters.{admitted}
+use Rattle.rules.specs.Rules.{point, answerFinite, Report, noneYet, last, U3, afterS1, afterS4, rounds, askStart, askHigh, search}
 use Rattle.hagerzhang.specs.Machine.{comesOf, leftOf, keptOf}
 
 -- ---- what a state reports

@@ -1,233 +1,22 @@
-// Hager-Zhang (argmin's hagerzhang.rs). The search hands out a step and is given cost and slope there. An answer comes to a bracket or goes on in
-// U3 (Came), something follows in the iteration (Then), the search moves (Move), and one place writes the next state.
+// Hager-Zhang as a machine. The search hands out a step and is given cost and slope there. An answer comes to a bracket or goes on in U3 (Came), something
+// follows in the iteration (Then), the search moves (Move), and one place writes the next state.
 
 use outcomes::Evaluations;
 use outcomes::Iterations;
 use outcomes::Outcome;
 use outcomes::Refusal;
-use outcomes::Verdict;
+use rules::Bracket;
+use rules::Came;
+use rules::Further;
+use rules::Judged;
+use rules::Options;
+use rules::Params;
+use rules::Point;
+use rules::Setup;
 ghost use mathlib.Core.Path.{_≡_};
 ghost use Prim.Native.Nat.{_<_};
-ghost use Rattle.hagerzhang.specs.Parameters.{defaultsOf, paramsFinite, suppliedFinite, inRanges};
-ghost use Rattle.hagerzhang.specs.Rules.{answerFinite, secantOf, updatedOf, middleOf, narrowedOf, near, S2, S3, orElse, L2, bestOf, wolfeHolds, approximateHolds, judgedOf};
 ghost use Rattle.hagerzhang.specs.Machine.{fresh, startOf, comesOf, leftOf, attemptOf, probeOf, afterS4Of, afterS1Of, followOf, onwardOf, openedOf, closedOf, outlookOf, madeOf, settledOf, reactOf, keptOf, takenOf, answerOf};
 ghost use Rattle.hagerzhang.specs.Meaning.{Starts, Follows};
-
-// Step, cost and slope.
-pub struct Point {
-    pub x: f64,
-    pub f: f64,
-    pub g: f64,
-}
-
-pub struct Bracket {
-    pub a: Point,
-    pub b: Point,
-}
-
-pub struct Params {
-    pub delta: f64,
-    pub sigma: f64,
-    pub epsilon: f64,
-    pub theta: f64,
-    pub gamma: f64,
-    // checked and stored; no rule reads it
-    pub eta: f64,
-    pub min: f64,
-    pub max: f64,
-    // the start step c
-    pub start: f64,
-}
-
-pub struct Options {
-    pub params: Params,
-    // how many answers one U3 run may have
-    pub budget: u32,
-    // how many iterations may be finished
-    pub limit: u32,
-}
-
-// What does not change in a search.
-pub struct Setup {
-    pub options: Options,
-    // cost and slope at the start
-    pub f0: f64,
-    pub s0: f64,
-    // L = f0 + epsilon_k
-    pub level: f64,
-}
-
-// argmin's parameters, and a budget and a limit of 100.
-pub fn defaults() -> Options
-    ensures { λ r. ⌜ r ≡ defaultsOf ⌝ }
-{
-    Options {
-        params: Params {
-            delta: 0.1,
-            sigma: 0.9,
-            epsilon: 1e-6,
-            theta: 0.5,
-            gamma: 0.66,
-            eta: 0.01,
-            min: 2.220446049250313e-16,
-            max: 1e5,
-            start: 1.0,
-        },
-        budget: 100,
-        limit: 100,
-    }
-}
-
-// ---- the rules, each as a decision
-
-fn both_finite(f: f64, g: f64) -> bool
-    ensures { λ r. ⌜ r ≡ answerFinite f g ⌝ }
-{
-    numbers::is_finite(f) & numbers::is_finite(g)
-}
-
-pub fn secant(p: Point, q: Point) -> f64
-    ensures { λ r. ⌜ r ≡ secantOf p q ⌝ }
-{
-    (p.x * q.g - q.x * p.g) / (q.g - p.g)
-}
-
-// What an answer comes to: the updated bracket, or U3 goes on with its ends.
-enum Came {
-    To(Bracket),
-    On(Point, f64),
-}
-
-// U0 to U2; U3 goes on from the low end.
-fn updated(level: f64, w: Bracket, c: Point) -> Came
-    ensures { λ r. ⌜ r ≡ updatedOf level w c ⌝ }
-{
-    let a = w.a;
-    let b = w.b;
-    if (c.x <= a.x) | (c.x >= b.x) {
-        return Came::To(w);
-    }
-    if c.g >= 0.0 {
-        return Came::To(Bracket { a, b: c });
-    }
-    if c.f <= level {
-        return Came::To(Bracket { a: c, b });
-    }
-    Came::On(a, c.x)
-}
-
-// The step that U3 asks between its ends.
-fn middle(theta: f64, h: Point, k: f64) -> f64
-    ensures { λ r. ⌜ r ≡ middleOf theta h k ⌝ }
-{
-    (1.0 - theta) * h.x + theta * k
-}
-
-// U3 by its answer d.
-fn narrowed(level: f64, h: Point, k: f64, d: Point) -> Came
-    ensures { λ r. ⌜ r ≡ narrowedOf level h k d ⌝ }
-{
-    if d.g >= 0.0 {
-        return Came::To(Bracket { a: h, b: d });
-    }
-    if d.f <= level {
-        return Came::On(d, k);
-    }
-    Came::On(h, d.x)
-}
-
-// A further trial of an iteration, if there is one.
-enum Further {
-    Nothing,
-    At(f64),
-}
-
-fn is_near(x: f64, y: f64) -> bool
-    ensures { λ r. ⌜ r ≡ near x y ⌝ }
-{
-    numbers::abs(x - y) < 2.220446049250313e-16
-}
-
-fn s2(w: Bracket, c: f64, u: Bracket) -> Further
-    ensures { λ r. ⌜ r ≡ S2 w c u ⌝ }
-{
-    if is_near(c, u.b.x) {
-        return Further::At(secant(w.b, u.b));
-    }
-    Further::Nothing
-}
-
-fn s3(w: Bracket, c: f64, u: Bracket) -> Further
-    ensures { λ r. ⌜ r ≡ S3 w c u ⌝ }
-{
-    if is_near(c, u.a.x) {
-        return Further::At(secant(w.a, u.a));
-    }
-    Further::Nothing
-}
-
-// The first of two further trials that there is.
-fn or_else(e: Further, d: Further) -> Further
-    ensures { λ r. ⌜ r ≡ orElse e d ⌝ }
-{
-    match e {
-        Further::At(x) => Further::At(x),
-        Further::Nothing => d,
-    }
-}
-
-fn l2(gamma: f64, w: Bracket, u: Bracket) -> Further
-    ensures { λ r. ⌜ r ≡ L2 gamma w u ⌝ }
-{
-    if u.b.x - u.a.x > gamma * (w.b.x - w.a.x) {
-        return Further::At((u.a.x + u.b.x) / 2.0);
-    }
-    Further::Nothing
-}
-
-fn best(a: Point, b: Point, c: Point) -> Point
-    ensures { λ r. ⌜ r ≡ bestOf a b c ⌝ }
-{
-    if (c.f <= a.f) & (c.f <= b.f) {
-        return c;
-    }
-    if (b.f <= a.f) & (b.f <= c.f) {
-        return b;
-    }
-    a
-}
-
-fn wolfe(s: Setup, p: Point) -> bool
-    ensures { λ r. ⌜ r ≡ wolfeHolds s p ⌝ }
-{
-    (p.f - s.f0 <= (s.options.params.delta * p.x) * s.s0) & (p.g >= s.options.params.sigma * s.s0)
-}
-
-fn approximate(s: Setup, p: Point) -> bool
-    ensures { λ r. ⌜ r ≡ approximateHolds s p ⌝ }
-{
-    ((2.0 * s.options.params.delta - 1.0) * s.s0 >= p.g)
-        & (p.g >= s.options.params.sigma * s.s0)
-        & (p.f <= s.level)
-}
-
-enum Judged {
-    Holds(Verdict),
-    Fails,
-}
-
-// The first verdict that holds of the best.
-fn judge(s: Setup, p: Point) -> Judged
-    ensures { λ r. ⌜ r ≡ judgedOf s p ⌝ }
-{
-    if wolfe(s, p) {
-        return Judged::Holds(Verdict::Wolfe);
-    }
-    if approximate(s, p) {
-        return Judged::Holds(Verdict::Approximate);
-    }
-    Judged::Fails
-}
 
 // ---- the state
 
@@ -312,8 +101,8 @@ fn comes(level: f64, t: Trial, asked: Asked, f: f64, g: f64) -> Came
     ensures { λ r. ⌜ r ≡ comesOf level t asked f g ⌝ }
 {
     match asked {
-        Asked::Update(w) => updated(level, w, Point { x: t.x, f, g }),
-        Asked::Between(e) => narrowed(level, e.h, e.k, Point { x: e.d, f, g }),
+        Asked::Update(w) => rules::updated(level, w, Point { x: t.x, f, g }),
+        Asked::Between(e) => rules::narrowed(level, e.h, e.k, Point { x: e.d, f, g }),
     }
 }
 
@@ -351,7 +140,7 @@ fn probe(theta: f64, t: Trial, left: u32, h: Point, k: f64) -> Move
     if left == 0 {
         return Move::End(Outcome::Refused(Refusal::BudgetSpent));
     }
-    let d = middle(theta, h, k);
+    let d = rules::middle(theta, h, k);
     if !numbers::is_finite(d) {
         return Move::End(Outcome::Refused(Refusal::StepNotFinite));
     }
@@ -379,7 +168,7 @@ enum Then {
 fn after_s4(gamma: f64, w: Bracket, v: Bracket) -> Then
     ensures { λ r. ⌜ r ≡ afterS4Of gamma w v ⌝ }
 {
-    match l2(gamma, w, v) {
+    match rules::l2(gamma, w, v) {
         Further::At(x) => Then::Go(attempt(v, Rule::L2, x)),
         Further::Nothing => Then::Close(v),
     }
@@ -389,7 +178,7 @@ fn after_s4(gamma: f64, w: Bracket, v: Bracket) -> Then
 fn after_s1(gamma: f64, w: Bracket, c: f64, u: Bracket) -> Then
     ensures { λ r. ⌜ r ≡ afterS1Of gamma w c u ⌝ }
 {
-    match or_else(s3(w, c, u), s2(w, c, u)) {
+    match rules::s4(w, c, u) {
         Further::At(x) => Then::Go(attempt(u, Rule::S4, x)),
         Further::Nothing => after_s4(gamma, w, u),
     }
@@ -421,7 +210,7 @@ fn onward(p: Params, w: Bracket, t: Trial, left: u32, came: Came) -> Then
 fn opened(w: Bracket, c: Point) -> Finished
     ensures { λ r. ⌜ r ≡ openedOf w c ⌝ }
 {
-    let p = best(w.a, w.b, c);
+    let p = rules::best(w.a, w.b, c);
     Finished {
         bracket: w,
         start: c,
@@ -435,7 +224,7 @@ fn closed(last: Finished, v: Bracket) -> Finished
     ensures { λ r. ⌜ r ≡ closedOf last v ⌝ }
 {
     let start = last.start;
-    let p = best(v.a, v.b, start);
+    let p = rules::best(v.a, v.b, start);
     let n = last.iterations.next();
     Finished {
         bracket: v,
@@ -450,13 +239,13 @@ fn outlook(s: Setup, last: Finished) -> Move
     ensures { λ r. ⌜ r ≡ outlookOf s last ⌝ }
 {
     let w = last.bracket;
-    match judge(s, last.best) {
+    match rules::judge(s, last.best) {
         Judged::Holds(v) => Move::End(Outcome::Stop(v, last.best.x)),
         Judged::Fails => {
             if s.options.limit <= last.iterations.0 {
                 return Move::End(Outcome::Limit(last.best.x));
             }
-            attempt(w, Rule::S1, secant(w.a, w.b))
+            attempt(w, Rule::S1, rules::secant(w.a, w.b))
         }
     }
 }
@@ -532,7 +321,7 @@ fn keeps(waiting: Waiting) -> Kept
 fn taken(s: Setup, n: Evaluations, waiting: Waiting, f: f64, g: f64) -> Step
     ensures { λ r. ⌜ r ≡ takenOf s n waiting f g ⌝ }
 {
-    if both_finite(f, g) {
+    if rules::both_finite(f, g) {
         let next = react(s, waiting, f, g);
         let stage = next.stage;
         let outcome = next.outcome;
@@ -573,46 +362,6 @@ pub fn answer(s: Search, f: f64, g: f64) -> Step
     }
 }
 
-fn params_finite(p: Params) -> bool
-    ensures { λ r. ⌜ r ≡ paramsFinite p ⌝ }
-{
-    let wolfe = both_finite(p.delta, p.sigma);
-    let epsilon = numbers::is_finite(p.epsilon);
-    let theta = numbers::is_finite(p.theta);
-    let gamma = numbers::is_finite(p.gamma);
-    let eta = numbers::is_finite(p.eta);
-    let min = numbers::is_finite(p.min);
-    let max = numbers::is_finite(p.max);
-    let start = numbers::is_finite(p.start);
-    wolfe & epsilon & theta & gamma & eta & min & max & start
-}
-
-fn supplied_finite(o: Options, f0: f64, s0: f64) -> bool
-    ensures { λ r. ⌜ r ≡ suppliedFinite o f0 s0 ⌝ }
-{
-    let params = params_finite(o.params);
-    let cost = numbers::is_finite(f0);
-    let slope = numbers::is_finite(s0);
-    params & cost & slope
-}
-
-fn in_ranges(o: Options) -> bool
-    ensures { λ r. ⌜ r ≡ inRanges o ⌝ }
-{
-    let p = o.params;
-    let wolfe = (0.0 < p.delta) & (p.delta < 1.0) & (p.delta <= p.sigma) & (p.sigma < 1.0);
-    let factors = (0.0 <= p.epsilon)
-        & (0.0 < p.theta)
-        & (p.theta < 1.0)
-        & (0.0 < p.gamma)
-        & (p.gamma < 1.0)
-        & (0.0 < p.eta);
-    let bounds = (0.0 <= p.min) & (p.min < p.max);
-    let budget = (1 <= o.budget) & (o.budget <= 1000);
-    let limit = (1 <= o.limit) & (o.limit <= 10000);
-    wolfe & factors & bounds & (budget & limit)
-}
-
 // A search that waits for the first answer.
 fn fresh_search(s: Setup) -> Step
     ensures { λ r. ⌜ r ≡ fresh s ⌝ }
@@ -630,15 +379,15 @@ fn fresh_search(s: Setup) -> Step
 fn begin(o: Options, f0: f64, s0: f64) -> Started
     ensures { λ r. ⌜ r ≡ startOf o f0 s0 ⌝ }
 {
-    if !supplied_finite(o, f0, s0) {
+    if !rules::supplied_finite(o, f0, s0) {
         return Started::NoSearch(Refusal::SuppliedNotFinite);
     }
-    if !in_ranges(o) {
+    if !rules::in_ranges(o) {
         return Started::NoSearch(Refusal::OutOfRange);
     }
     let epsilon_k = o.params.epsilon * numbers::abs(f0);
     let level = f0 + epsilon_k;
-    if !both_finite(epsilon_k, level) {
+    if !rules::both_finite(epsilon_k, level) {
         return Started::NoSearch(Refusal::ResultNotFinite);
     }
     Started::Began(fresh_search(Setup {

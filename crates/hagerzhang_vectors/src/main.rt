@@ -2,9 +2,6 @@
 // tests/make_hagerzhang_vectors.py makes the list, and says how a case is written.
 use hagerzhang::Finished;
 use hagerzhang::Kept;
-use hagerzhang::Options;
-use hagerzhang::Params;
-use hagerzhang::Point;
 use hagerzhang::Search;
 use hagerzhang::Stage;
 use hagerzhang::Started;
@@ -13,6 +10,9 @@ use libc::STDIN_FILENO;
 use libc::STDOUT_FILENO;
 use outcomes::Outcome;
 use outcomes::Verdict;
+use rules::Options;
+use rules::Params;
+use rules::Point;
 ghost use Prim.Native.Nat.{_≤_};
 
 // ---- reading: past the end every byte is 0
@@ -168,7 +168,7 @@ fn secant_case(s: &[u8], at: usize) -> Judged {
         g: number(s, after(at, 24)),
     };
     Judged {
-        right: bits::bits_of(hagerzhang::secant(p, q)) == word(s, after(at, 32)),
+        right: bits::bits_of(rules::secant(p, q)) == word(s, after(at, 32)),
         next: after(at, 40),
     }
 }

@@ -1,6 +1,5 @@
 -- `hagerzhang::after_s1` meets its contract. Assumes nothing.
-use mathlib.Core.Path.{_≡_, sym, ap₂, _∙_}
-use Rattle.hagerzhang.specs.Rules.{orElse}
+use mathlib.Core.Path.{_≡_, sym, _∙_}
 use Rattle.hagerzhang.specs.Machine.{triedBy}
 use borrow.Author.Needs.{needs}
 use Rattle.hagerzhang.proofs.after_s1.Statement.{statement}
@@ -8,22 +7,16 @@ use Rattle.hagerzhang.proofs.after_s1.Tie as tie
 
 returns : tie.Need-returns
 unfolding triedBy
-returns c =
-    let e = ap₂ orElse (sym (c .before .before .before .before .before .before .s3 .ensures)) (sym (c .before .before .before .before .before .s2 .ensures)) ∙ sym (c .before .before .before .before .or-else .ensures) ∙ c .before .before .x .given .1 in
-    rw e (rw (c .attempt .ensures))
+returns c = rw (sym (c .before .before .before .before .s4 .ensures) ∙ c .before .before .x .given .1) (rw (c .attempt .ensures))
 
 returns-2 : tie.Need-returns-2
 unfolding triedBy
-returns-2 c =
-    let e = ap₂ orElse (sym (c .before .before .before .before .before .s3 .ensures)) (sym (c .before .before .before .before .s2 .ensures)) ∙ sym (c .before .before .before .or-else .ensures) ∙ c .before .enum-told .given .1 in
-    rw e (c .after-s4 .ensures)
+returns-2 c = rw (sym (c .before .before .before .s4 .ensures) ∙ c .before .enum-told .given .1) (c .after-s4 .ensures)
 
 pub after-s1-spec : {M : Type 1} → statement M
 after-s1-spec =
     tie.close
     (tie.spec
-    (λ c κs. search needs)
-    (λ c κs. search needs)
     (λ c κs. search needs)
     (λ c. search needs)
     (λ c κs. search needs)

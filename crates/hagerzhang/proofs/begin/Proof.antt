@@ -2,7 +2,7 @@
 use mathlib.Core.Path.{_≡_, sym, _∙_}
 use mathlib.Core.Bool.{true, _&&_}
 use borrow.Author.Tests.{not-true, not-false}
-use Rattle.hagerzhang.specs.Parameters.{suppliedFinite, inRanges}
+use Rattle.rules.specs.Parameters.{suppliedFinite, inRanges}
 use borrow.Author.Needs.{needs}
 use Rattle.hagerzhang.proofs.begin.Statement.{statement}
 use Rattle.hagerzhang.proofs.begin.Tie as tie

@@ -1,0 +1,3 @@
+pub mod MarkedSums
+pub mod Unreachable
+pub mod Bounds

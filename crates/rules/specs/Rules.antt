@@ -1,0 +1,206 @@
+-- 01, "Hager-Zhang rules", line by line: each rule once, as a decision; then the flow over them as a run of questions and answers.
+-- A point is (x, f, g): step, cost and slope. A bracket is (a, b). L is the setup's level.
+use Prim.Native.Nat.{ℕ, zero, suc, _+_}
+use mathlib.Core.Bool.{Bool, cond, _&&_, _||_}
+use lib.Ieee.{Float, binary64, ofBits}
+use lib.Ieee.Scale.{finite}
+use Rattle.floats.specs.Arithmetic.{_⊕_, _⊖_, _⊗_, _⊘_, _<ᶠ_, _≤ᶠ_, _>ᶠ_, _≥ᶠ_, 0ᶠ, 1ᶠ, 2ᶠ}
+use Rattle.numbers.specs.Numbers.{absOf}
+use Rattle.outcomes.specs.Outcomes.{verdictWord, stop, limit}
+use Rattle.outcomes.specs.Asking.{Run, end, Search, over, leaving, question}
+use Rattle.outcomes.specs.declared.Verdict.{Verdict}
+use Rattle.outcomes.specs.declared.Verdict.the-variants.{Wolfe, Approximate}
+use Rattle.rules.specs.declared.Point.{Point}
+use Rattle.rules.specs.declared.Bracket.{Bracket}
+use Rattle.rules.specs.declared.Setup.{Setup}
+use Rattle.rules.specs.declared.Came.{Came}
+use Rattle.rules.specs.declared.Came.the-variants.{To, On}
+use Rattle.rules.specs.declared.Further.{Further}
+use Rattle.rules.specs.declared.Further.the-variants.{Nothing, At}
+use Rattle.rules.specs.declared.Judged.{Judged}
+use Rattle.rules.specs.declared.Judged.the-variants.{Holds, Fails}
+
+abbrev pub point : Float → Float → Float → Point
+point x f g = record { x = x; f = f; g = g }
+
+abbrev pub bracket : Point → Point → Bracket
+bracket a b = record { a = a; b = b }
+
+-- "EPS = 2^-52"
+abbrev pub EPS : Float
+EPS = ofBits binary64 0x3cb0_0000_0000_0000
+
+abbrev pub answerFinite : Float → Float → Bool
+answerFinite f g = finite f && finite g
+
+-- ---- "Update of (a, b) with c"
+
+-- U0: "c.x <= a.x or c.x >= b.x: unchanged". U1: "c.g >= 0 (minus zero too): (a, c)". U2: "c.g < 0, c.f <= L: (c, b)".
+-- U3: "c.g < 0, c.f > L: ends h = a, k = c.x", and goes on.
+unfoldable pub updatedOf : Float → Bracket → Point → Came
+updatedOf L w c =
+    cond (c .x ≤ᶠ w .a .x || c .x ≥ᶠ w .b .x) (To w)
+    (cond (c .g ≥ᶠ 0ᶠ) (To (bracket (w .a) c))
+    (cond (c .f ≤ᶠ L) (To (bracket c (w .b)))
+    (On (w .a) (c .x))))
+
+-- "Ask d.x = (1-theta)*h.x + theta*k."
+abbrev pub middleOf : Float → Point → Float → Float
+middleOf theta h k = (1ᶠ ⊖ theta) ⊗ h .x ⊕ theta ⊗ k
+
+-- "If d.g >= 0: (h, d). Else if d.f <= L: h = d. Else k = d.x. Repeat."
+unfoldable pub narrowedOf : Float → Point → Float → Point → Came
+narrowedOf L h k d =
+    cond (d .g ≥ᶠ 0ᶠ) (To (bracket h d))
+    (cond (d .f ≤ᶠ L) (On d k)
+    (On h (d .x)))
+
+-- ---- "Secant(p, q) = (p.x*q.g - q.x*p.g)/(q.g - p.g)."
+abbrev pub secantOf : Point → Point → Float
+secantOf p q = (p .x ⊗ q .g ⊖ q .x ⊗ p .g) ⊘ (q .g ⊖ p .g)
+
+-- ---- "Iteration on (a, b)": w is (a, b), u is (A, Z), c is the step of S1
+
+abbrev pub near : Float → Float → Bool
+near x y = absOf (x ⊖ y) <ᶠ EPS
+
+-- a further trial, where the test holds
+abbrev pub when : Bool → Float → Further
+when test x = cond test (At x) Nothing
+
+abbrev pub orElse : Further → Further → Further
+orElse (At x) d = At x
+orElse Nothing d = d
+
+-- "S2: if |c.x - Z.x| < EPS, e = secant(b, Z)."
+unfoldable pub S2 : Bracket → Float → Bracket → Further
+S2 w c u = when (near c (u .b .x)) (secantOf (w .b) (u .b))
+
+-- "S3: if |c.x - A.x| < EPS, e = secant(a, A), overwriting S2's."
+unfoldable pub S3 : Bracket → Float → Bracket → Further
+S3 w c u = when (near c (u .a .x)) (secantOf (w .a) (u .a))
+
+-- "S4: if either held, ask e and update (A, Z) with it."
+abbrev pub S4 : Bracket → Float → Bracket → Further
+S4 w c u = orElse (S3 w c u) (S2 w c u)
+
+-- "L2: if Z.x - A.x > gamma*(b.x - a.x), ask (A.x + Z.x)/2 and update."
+unfoldable pub L2 : Float → Bracket → Bracket → Further
+L2 gamma w u = when (u .b .x ⊖ u .a .x >ᶠ gamma ⊗ (w .b .x ⊖ w .a .x)) ((u .a .x ⊕ u .b .x) ⊘ 2ᶠ)
+
+-- ---- "Best: if a.f <= b.f and a.f <= c.f take a; then b by the same test, overriding; then c, overriding."
+
+abbrev pub lowest : Point → Point → Point → Bool
+lowest p q r = p .f ≤ᶠ q .f && p .f ≤ᶠ r .f
+
+unfoldable pub bestOver : Point → Point → Point → Point → Point
+bestOver old a b c = cond (lowest c a b) c (cond (lowest b a c) b (cond (lowest a b c) a old))
+
+-- 01 says nothing for the case that no test holds. With finite costs one always does (`best-is-one`), so the a in that place is never seen.
+abbrev pub bestOf : Point → Point → Point → Point
+bestOf a b c = bestOver a a b c
+
+-- ---- "Verdict, first that holds"
+
+-- ""wolfe" if best.f - f0 <= (delta*best.x)*s0 and best.g >= sigma*s0"
+abbrev pub wolfeHolds : Setup → Point → Bool
+wolfeHolds s p =
+    (p .f ⊖ s .f0 ≤ᶠ (s .options .params .delta ⊗ p .x) ⊗ s .s0) && (p .g ≥ᶠ s .options .params .sigma ⊗ s .s0)
+
+-- ""approximate" if (2*delta - 1)*s0 >= best.g, best.g >= sigma*s0 and best.f <= L"
+abbrev pub approximateHolds : Setup → Point → Bool
+approximateHolds s p =
+    ((2ᶠ ⊗ s .options .params .delta ⊖ 1ᶠ) ⊗ s .s0 ≥ᶠ p .g) && (p .g ≥ᶠ s .options .params .sigma ⊗ s .s0) && (p .f ≤ᶠ s .level)
+
+unfoldable pub judgedOf : Setup → Point → Judged
+judgedOf s p = cond (wolfeHolds s p) (Holds Wolfe) (cond (approximateHolds s p) (Holds Approximate) Fails)
+
+-- ---- the flow. K is what is reported meanwhile; a refusal n comes to `refuse n`
+
+module _ {K R : Type 0} (s : Setup) (refuse : ℕ → R) (k : K) where
+  abbrev pub asking : Float → (Point → Run K R) → Run K R
+  asking x then = question answerFinite refuse k x (λ f g. then (point x f g))
+
+  -- 01, refusal 5: "the next trial step comes out not finite; nothing is asked"
+  unfoldable pub trial : Float → (Point → Run K R) → Run K R
+  trial x then = cond (finite x) (asking x then) (end (refuse 5))
+
+  -- 5, then 7: "U3's next step is not strictly between its two ends; nothing is asked"
+  unfoldable pub between : Point → Float → Float → (Point → Run K R) → Run K R
+  between h k' x then = cond (finite x) (cond (h .x <ᶠ x && x <ᶠ k') (asking x then) (end (refuse 7))) (end (refuse 5))
+
+  -- U3 while n answers may come. 6: "one U3 run has had B answers and the last did not end it", before 5 and 7
+  unfoldable pub U3 : ℕ → Came → (Bracket → Run K R) → Run K R
+  U3 zero (To u) then = then u
+  U3 zero (On h k') then = end (refuse 6)
+  U3 (suc n) (To u) then = then u
+  U3 (suc n) (On h k') then =
+      between h k' (middleOf (s .options .params .theta) h k') λ d.
+      U3 n (narrowedOf (s .level) h k' d) then
+
+  abbrev pub update : Bracket → Point → (Bracket → Run K R) → Run K R
+  update w c then = U3 (s .options .budget) (updatedOf (s .level) w c) then
+
+  -- a further trial, if there is one, and the update with it
+  unfoldable pub further : Further → Bracket → (Bracket → Run K R) → Run K R
+  further Nothing u then = then u
+  further (At x) u then = trial x λ c. update u c then
+
+  -- L2 after S1 to S4 came to v
+  unfoldable pub afterS4 : Bracket → Bracket → (Bracket → Run K R) → Run K R
+  afterS4 w v then = further (L2 (s .options .params .gamma) w v) v then
+
+  -- S4 after S1, at the step c, came to u
+  unfoldable pub afterS1 : Bracket → Float → Bracket → (Bracket → Run K R) → Run K R
+  afterS1 w c u then = further (S4 w c u) u λ v. afterS4 w v then
+
+  -- "S1: c.x = secant(a, b), ask, update to (A, Z)"
+  unfoldable pub iteration : Bracket → (Bracket → Run K R) → Run K R
+  iteration w then =
+      trial (secantOf (w .a) (w .b)) λ c.
+      update w c λ u.
+      afterS1 w (c .x) u then
+
+-- ---- what is reported: "During the first three answers there is no bracket and no best"; then those of the last finished iteration, or the start
+
+pub record Last : Type 0 where
+  pub bracket : Bracket
+  pub best : Point
+  pub iterations : ℕ
+
+-- with `noneYet` no iteration is finished either
+pub data Report : Type 0 where
+  noneYet : Report
+  last : Last → Report
+
+-- a verdict stops the search at the best step; with none it goes on
+unfoldable pub decided : Report → Float → Search Report → Judged → Search Report
+decided k x go (Holds v) = over k (stop (verdictWord v) x)
+decided k x go Fails = go
+
+module _ (s : Setup) where
+  abbrev pub reportOf : Bracket → Point → ℕ → Report
+  reportOf w c i = last (record { bracket = w; best = bestOf (w .a) (w .b) c; iterations = i })
+
+  -- "Then best, then verdict": the best of the bracket w and the start point c, after i finished iterations
+  unfoldable pub verdict : Bracket → Point → ℕ → Search Report → Search Report
+  verdict w c i go =
+      let p = bestOf (w .a) (w .b) c in
+      decided (reportOf w c i) (p .x) go (judgedOf s p)
+
+  -- "After an iteration the verdict is tested first, then the limit; only then is the next step worked out." n iterations may still be begun.
+  unfoldable pub rounds : ℕ → Bracket → Point → ℕ → Search Report
+  rounds zero w c i = verdict w c i (over (reportOf w c i) (limit (bestOf (w .a) (w .b) c .x)))
+  rounds (suc n) w c i =
+      let k = reportOf w c i in
+      verdict w c i (iteration s (leaving k) k w λ v. rounds n v c (i + 1))
+
+  -- "Start: ask a = min, b = max, c = start step, in that order."
+  unfoldable pub askStart : Bracket → Search Report
+  askStart w = asking s (leaving noneYet) noneYet (s .options .params .start) λ c. rounds (s .options .limit) w c 0
+
+  unfoldable pub askHigh : Point → Search Report
+  askHigh a = asking s (leaving noneYet) noneYet (s .options .params .max) λ b. askStart (bracket a b)
+
+  unfoldable pub search : Search Report
+  search = asking s (leaving noneYet) noneYet (s .options .params .min) λ a. askHigh a
