@@ -1,2 +1,3 @@
 pub mod Bridge
 pub mod Demand2
+pub mod Demand3

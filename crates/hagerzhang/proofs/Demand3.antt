@@ -1,0 +1,59 @@
+-- Demand 3 of a search that `start` accepts, for every list of answers: its bracket stays one, each finished iteration's lies within the former, and each end is a
+-- former end or a point asked in that iteration with its answer. From the rules (rules/proofs/Demand3.antt), which the machine reports. Assumes nothing.
+use mathlib.Core.Path.{_≡_, refl, sym, _∙_}
+use mathlib.Core.Bool.{true, _&&_}
+use mathlib.Core.List.{List, [], _∷_, _++_}
+use Prim.Native.Nat.{_+_}
+use Rattle.floats.specs.Arithmetic.{_<ᶠ_, _≤ᶠ_, 0ᶠ}
+use Rattle.outcomes.specs.Asking.{Search as Run, Reply, respond, reported, after}
+use Rattle.outcomes.proofs.Branches.{and-first, and-second}
+use Rattle.rules.specs.declared.Setup.{Setup}
+use Rattle.hagerzhang.specs.declared.Search.{Search}
+use Rattle.rules.specs.Parameters.{wolfeInRange, factorsInRange, boundsInRange, countsInRange}
+use Rattle.rules.specs.Rules.{Last, Report, last, search}
+use Rattle.hagerzhang.specs.Meaning.{report}
+use Rattle.rules.proofs.Iterations.{Bracketed, Within}
+use Rattle.rules.proofs.EachIteration.{Finished}
+use Rattle.rules.proofs.Demand3 as rules
+use Rattle.hagerzhang.proofs.Demand2.{Accepted, FreshSearch, reachedBy, report-is-rules}
+
+ends-ordered : (s : Setup) → Accepted s → s .options .params .min <ᶠ s .options .params .max ≡ true
+ends-ordered s a =
+    let p = s .options .params in
+    let w = wolfeInRange p in
+    let f = factorsInRange p in
+    let b = boundsInRange p in
+    and-second (0ᶠ ≤ᶠ p .min) (p .min <ᶠ p .max) (and-second (w && f) b (and-first (w && f && b) (countsInRange (s .options)) (a .ranges)))
+
+after-one-more : (r : Run Report) (ys : List Reply) (y : Reply) → after r (ys ++ (y ∷ [])) ≡ respond (after r ys) (y .0) (y .1)
+unfolding after
+after-one-more r [] y = refl
+after-one-more r (z ∷ ys) y = after-one-more (respond r (z .0) (z .1)) ys y
+
+-- ya, yb and yc are the answers at min, max and the start step
+module _ (s : Setup) (b : Search) (new : FreshSearch s b) (ya yb yc : Reply) (ys : List Reply) where
+  abbrev given : List Reply
+  given = ya ∷ yb ∷ yc ∷ ys
+
+  reported-here : report (reachedBy b given) ≡ reported (after (rules.begun s ya yb yc) ys)
+  unfolding after
+  reported-here = report-is-rules s b new given
+
+  reported-next : (y : Reply) → report (reachedBy b (given ++ (y ∷ []))) ≡ reported (respond (after (rules.begun s ya yb yc) ys) (y .0) (y .1))
+  unfolding after
+  reported-next y = report-is-rules s b new (given ++ (y ∷ [])) ∙ rw (after-one-more (search s) given y)
+
+  -- "Each end is, bit for bit, a former end or a step asked in that iteration with its answer": whatever the slopes are; and "at most 3+3B answers"
+  pub each-iteration : (y : Reply) (p q : Last) → report (reachedBy b given) ≡ last p → report (reachedBy b (given ++ (y ∷ []))) ≡ last q → q .iterations ≡ p .iterations + 1
+      → Finished s p (rules.noted (after (rules.begun s ya yb yc) ys) y (rules.under-way [] (rules.begun s ya yb yc) ys)) q
+  each-iteration y p q e e' n = rules.each-iteration s ya yb yc ys y p q (sym reported-here ∙ e) (sym (reported-next y) ∙ e') n
+
+  module _ (premise : rules.Premise s ya yb yc) where
+    -- "after each finished iteration the bracket meets the same three, low step < high step"
+    pub bracket-stays : (p : Last) → report (reachedBy b given) ≡ last p → Bracketed (s .level) (p .bracket)
+    bracket-stays p e = rules.bracketed (report (reachedBy b given)) p (rw reported-here (rules.bracket-stays s ya yb yc (ends-ordered s (new .accepted-setup)) premise ys)) e
+
+    -- "it lies within the former bracket"
+    pub bracket-narrows : (y : Reply) (p q : Last) → report (reachedBy b given) ≡ last p → report (reachedBy b (given ++ (y ∷ []))) ≡ last q → q .iterations ≡ p .iterations + 1
+        → Within (p .bracket) (q .bracket)
+    bracket-narrows y p q e e' n = each-iteration y p q e e' n .sound .inside (bracket-stays p e)

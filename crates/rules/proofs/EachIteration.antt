@@ -1,0 +1,128 @@
+-- Demand 3 over the whole search, said of each finished iteration (`rounds-arrive`): by one pass through the flow of the rules. Assumes nothing.
+use mathlib.Core.Path.{_≡_, refl}
+use mathlib.Core.Bool.{Bool, true, false, cond, _&&_}
+use mathlib.Core.List.{List, [], _∷_}
+use Prim.Native.Nat.{ℕ, zero, suc, _+_, _*_, _≤_}
+use native.Mathlib.Omega.{arith}
+use lib.ListN.{length}
+use lib.Ieee.{Float}
+use lib.Ieee.Scale.{finite}
+use Rattle.floats.specs.Arithmetic.{_<ᶠ_}
+use Rattle.outcomes.specs.Outcomes.{refusal}
+use Rattle.outcomes.specs.Asking.{Search, over, leaving, reported}
+use Rattle.outcomes.proofs.Branches.{and-first, and-second}
+use Rattle.rules.specs.declared.Point.{Point}
+use Rattle.rules.specs.declared.Bracket.{Bracket}
+use Rattle.rules.specs.declared.Setup.{Setup}
+use Rattle.rules.specs.declared.Came.{Came}
+use Rattle.rules.specs.declared.Came.the-variants.{To, On}
+use Rattle.rules.specs.declared.Further.{Further}
+use Rattle.rules.specs.declared.Further.the-variants.{Nothing, At}
+use Rattle.rules.specs.declared.Judged.{Judged}
+use Rattle.rules.specs.declared.Judged.the-variants.{Holds, Fails}
+use Rattle.rules.specs.Rules.{point, bracket, answerFinite, updatedOf, middleOf, narrowedOf, secantOf, S4, L2, bestOf, judgedOf, asking, trial, between, U3, update, further, afterS4, afterS1, iteration, Last, Report, reportOf, decided, verdict, rounds}
+use Rattle.rules.proofs.Iterations.{Arrives, ended, goes-on, finishes}
+use Rattle.rules.proofs.StaysBracket.{Sound, SoundCame, is-to, is-on, sound-self, updated-sound, narrowed-sound}
+
+if-arrives : {P : Last → List Point → Last → Type 0} {k : Report} {asked : List Point} (b : Bool) {x y : Search Report}
+    → (b ≡ true → Arrives P k asked x) → (b ≡ false → Arrives P k asked y) → Arrives P k asked (cond b x y)
+if-arrives true p q = p refl
+if-arrives false p q = q refl
+
+-- ---- within one iteration on w, which reports k
+module _ (P : Last → List Point → Last → Type 0) (s : Setup) (k : Report) (w : Bracket) where
+  abbrev B : ℕ
+  B = s .options .budget
+
+  asking-arrives : (asked : List Point) (x : Float) (then : Point → Search Report)
+      → ((f g : Float) → finite f ≡ true → finite g ≡ true → Arrives P k (point x f g ∷ asked) (then (point x f g))) → Arrives P k asked (asking s (leaving k) k x then)
+  asking-arrives asked x then go =
+      goes-on (λ f g. if-arrives (answerFinite f g) (λ e. go f g (and-first (finite f) (finite g) e) (and-second (finite f) (finite g) e)) (λ e. ended))
+
+  trial-arrives : (asked : List Point) (x : Float) (then : Point → Search Report)
+      → (finite x ≡ true → (f g : Float) → finite f ≡ true → finite g ≡ true → Arrives P k (point x f g ∷ asked) (then (point x f g))) → Arrives P k asked (trial s (leaving k) k x then)
+  unfolding trial
+  trial-arrives asked x then go = if-arrives (finite x) (λ e. asking-arrives asked x then (go e)) (λ e. ended)
+
+  U3-arrives : (n : ℕ) (asked : List Point) (came : Came) (then : Bracket → Search Report) → SoundCame (s .level) w asked came
+      → ((more : List Point) (v : Bracket) → length more ≤ length asked + n → Sound (s .level) w more v → Arrives P k more (then v))
+      → Arrives P k asked (U3 s (leaving k) k n came then)
+  unfolding U3 between
+  U3-arrives zero asked (To v) then (is-to m) go = go asked v (omega arith) m
+  U3-arrives zero asked (On h k') then (is-on m) go = ended
+  U3-arrives (suc n) asked (To v) then (is-to m) go = go asked v (omega arith) m
+  U3-arrives (suc n) asked (On h k') then (is-on m) go =
+      let x = middleOf (s .options .params .theta) h k' in
+      if-arrives (finite x)
+      (λ fx. if-arrives (h .x <ᶠ x && x <ᶠ k')
+      (λ inside. asking-arrives asked x (λ d. U3 s (leaving k) k n (narrowedOf (s .level) h k' d) then) (λ f g ff fg.
+      U3-arrives n (point x f g ∷ asked) (narrowedOf (s .level) h k' (point x f g)) then
+      (narrowed-sound (s .level) w asked h k' (point x f g) m (and-first (h .x <ᶠ x) (x <ᶠ k') inside) (and-second (h .x <ᶠ x) (x <ᶠ k') inside) fg)
+      (λ more v few m'. go more v (omega arith) m')))
+      (λ e. ended))
+      (λ e. ended)
+
+  -- a trial at x and its update of u
+  tried-arrives : (asked : List Point) (x : Float) (u : Bracket) (then : Bracket → Search Report) → Sound (s .level) w asked u
+      → ((more : List Point) (v : Bracket) → length more ≤ length asked + suc B → Sound (s .level) w more v → Arrives P k more (then v))
+      → Arrives P k asked (trial s (leaving k) k x (λ c. update s (leaving k) k u c then))
+  tried-arrives asked x u then m go =
+      trial-arrives asked x (λ c. update s (leaving k) k u c then) (λ fx f g ff fg.
+      U3-arrives B (point x f g ∷ asked) (updatedOf (s .level) u (point x f g)) then (updated-sound (s .level) w asked u (point x f g) m fx fg)
+      (λ more v few m'. go more v (omega arith) m'))
+
+  further-arrives : (asked : List Point) (e : Further) (u : Bracket) (then : Bracket → Search Report) → Sound (s .level) w asked u
+      → ((more : List Point) (v : Bracket) → length more ≤ length asked + suc B → Sound (s .level) w more v → Arrives P k more (then v))
+      → Arrives P k asked (further s (leaving k) k e u then)
+  unfolding further
+  further-arrives asked Nothing u then m go = go asked u (omega arith) m
+  further-arrives asked (At x) u then m go = tried-arrives asked x u then m go
+
+  pub iteration-arrives : (then : Bracket → Search Report)
+      → ((more : List Point) (v : Bracket) → length more ≤ 3 + 3 * B → Sound (s .level) w more v → Arrives P k more (then v))
+      → Arrives P k [] (iteration s (leaving k) k w then)
+  unfolding iteration afterS1 afterS4
+  iteration-arrives then go =
+      trial-arrives [] (secantOf (w .a) (w .b)) _ (λ fx f g ff fg.
+      let c = point (secantOf (w .a) (w .b)) f g in
+      U3-arrives B (c ∷ []) (updatedOf (s .level) w c) _ (updated-sound (s .level) w [] w c (sound-self (s .level) w) fx fg)
+      (λ h1 u l1 m1. further-arrives h1 (S4 w (c .x) u) u _ m1
+      (λ h2 v l2 m2. further-arrives h2 (L2 (s .options .params .gamma) w v) v then m2
+      (λ h3 z l3 m3. go h3 z (omega arith) m3))))
+
+-- ---- the iterations: what each one that is finished leaves
+pub record Finished (s : Setup) (p : Last) (asked : List Point) (q : Last) : Type 0 where
+  pub sound : Sound (s .level) (p .bracket) asked (q .bracket)
+  pub few : length asked ≤ 3 + 3 * s .options .budget
+
+module _ (s : Setup) where
+  decided-reports : (k : Report) (x : Float) (go : Search Report) (j : Judged) → reported go ≡ k → reported (decided k x go j) ≡ k
+  unfolding decided reported
+  decided-reports k x go (Holds v) e = refl
+  decided-reports k x go Fails e = e
+
+  trial-reports : (k : Report) (x : Float) (then : Point → Search Report) → reported (trial s (leaving k) k x then) ≡ k
+  unfolding trial reported
+  trial-reports k x then = pick (finite x)
+    where
+      pick : (b : Bool) → reported (cond b (asking s (leaving k) k x then) (over k (refusal 5))) ≡ k
+      pick true = refl
+      pick false = refl
+
+  pub rounds-report : (n : ℕ) (w : Bracket) (c : Point) (i : ℕ) → reported (rounds s n w c i) ≡ reportOf s w c i
+  unfolding rounds verdict iteration
+  rounds-report zero w c i = decided-reports (reportOf s w c i) _ _ (judgedOf s (bestOf (w .a) (w .b) c)) (unfold reported in refl)
+  rounds-report (suc n) w c i = decided-reports (reportOf s w c i) _ _ (judgedOf s (bestOf (w .a) (w .b) c)) (trial-reports (reportOf s w c i) (secantOf (w .a) (w .b)) _)
+
+  decided-arrives : (k : Report) (x : Float) (go : Search Report) (j : Judged) → Arrives (Finished s) k [] go → Arrives (Finished s) k [] (decided k x go j)
+  unfolding decided
+  decided-arrives k x go (Holds v) e = ended
+  decided-arrives k x go Fails e = e
+
+  pub rounds-arrive : (n : ℕ) (w : Bracket) (c : Point) (i : ℕ) → Arrives (Finished s) (reportOf s w c i) [] (rounds s n w c i)
+  unfolding rounds verdict
+  rounds-arrive zero w c i = decided-arrives (reportOf s w c i) _ _ (judgedOf s (bestOf (w .a) (w .b) c)) ended
+  rounds-arrive (suc n) w c i =
+      decided-arrives (reportOf s w c i) _ _ (judgedOf s (bestOf (w .a) (w .b) c))
+      (iteration-arrives (Finished s) s (reportOf s w c i) w _
+      (λ asked v few m. finishes (rounds-report n v c (i + 1)) refl (record { sound = m; few = few }) (rounds-arrive n v c (i + 1))))
