@@ -146,3 +146,12 @@ class Random:
 
     def below(self, n):
         return self.word() % n
+
+
+def write_list(path, cases):
+    """Writes a list, which must fit the 65,536 bytes that a test program reads."""
+    out = b"".join(cases)
+    assert len(out) < 65536, len(out)
+    with open(path, "wb") as f:
+        f.write(out)
+    print(f"{len(cases)} cases, {len(out)} bytes")

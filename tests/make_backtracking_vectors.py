@@ -18,7 +18,7 @@ An outcome is a byte, 1 ask, 2 stop, 3 limit, 4 refused, and eight bytes: the st
 import struct
 import sys
 
-from exact import INF, MAX, NAN, SIGN, TINY, Random, absolute, add, bits, is_finite, le, lt, mul, neg, sub
+from exact import INF, MAX, NAN, SIGN, TINY, Random, absolute, add, bits, is_finite, le, lt, mul, neg, sub, write_list
 
 F = lambda x: bits(float(x))
 ZERO, HALF, ONE, TWO = F(0), F(0.5), F(1), F(2)
@@ -211,11 +211,7 @@ def main(path):
             for alpha, rho in ((ONE, F(0.9)), (F(8), F(0.5))):
                 search_case(fine[kind], rho, alpha, f0, s0, 4, lambda step, i: curve(k, step))
 
-    out = b"".join(cases)
-    assert len(out) <= 65536, len(out)
-    with open(path, "wb") as f:
-        f.write(out)
-    print(f"{len(cases)} cases, {len(out)} bytes")
+    write_list(path, cases)
 
 
 if __name__ == "__main__":

@@ -17,7 +17,7 @@ An outcome is a byte, 1 ask, 2 stop wolfe, 3 stop approximate, 4 limit, 5 refuse
 import struct
 import sys
 
-from exact import INF, MAX, NAN, SIGN, TINY, Random, absolute, add, bits, div, is_finite, le, lt, mul, sub
+from exact import INF, MAX, NAN, SIGN, TINY, Random, absolute, add, bits, div, is_finite, le, lt, mul, sub, write_list
 from make_backtracking_vectors import curve
 
 F = lambda x: bits(float(x))
@@ -246,11 +246,7 @@ def main(path):
     for b in (1, 2, 7, 60):
         search_case(with_(low=ZERO, high=F(8), first=F(2)), ONE, F(-1), b, 5, lambda x, j: [(ONE, F(-1)), (F(9), ONE), (F(5), F(-1))][j] if j < 3 else (F(9), F(-1)), 66)
 
-    out = b"".join(cases)
-    assert len(out) <= 65536, len(out)
-    with open(path, "wb") as f:
-        f.write(out)
-    print(f"{len(cases)} cases, {len(out)} bytes")
+    write_list(path, cases)
 
 
 if __name__ == "__main__":

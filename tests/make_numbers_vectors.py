@@ -17,7 +17,7 @@ Any NaN is written as 7FF8000000000000.
 import struct
 import sys
 
-from exact import INF, MAX, NAN, NORM, SIGN, SUB, TINY, Random, add, bits, is_finite, is_nan, mul
+from exact import INF, MAX, NAN, NORM, SIGN, SUB, TINY, Random, add, bits, is_finite, is_nan, mul, write_list
 
 
 def dot(a, b):
@@ -170,11 +170,7 @@ def main(path):
     dot_case(a, b)
     point_case(a, like(), b, held(256))
 
-    out = b"".join(cases)
-    assert len(out) < 65536, len(out)
-    with open(path, "wb") as f:
-        f.write(out)
-    print(f"{len(cases)} cases, {len(out)} bytes")
+    write_list(path, cases)
 
 
 if __name__ == "__main__":
