@@ -1,0 +1,73 @@
+-- 01, "Sample curves and jobs": what a job is, and what it says.
+use Prim.Native.Nat.{ℕ, _<_, _/_, _%_}
+use mathlib.Core.Path.{_≡_}
+use mathlib.Core.Bool.{cond}
+use mathlib.Core.List.{List, [], _∷_, _++_}
+use mathlib.Core.Option.{Option, some, none}
+use lib.Dec.{eqb}
+use lib.ListN.{length, drop}
+use Rattle.numbers.specs.Answers.{Answer, value, refused}
+use Rattle.wire.specs.Wire.{byteAt, pairOf, floatOf}
+use Rattle.rules.specs.declared.Options.{Options}
+use Rattle.rules.specs.Parameters.{defaultsOf}
+use Rattle.jobs.specs.declared.Job.{Job}
+
+-- "A job is tagged fields: one-byte tag, two-byte length, body, most significant byte first"
+pub record Field : Type 0 where
+  pub tag : ℕ
+  pub body : List ℕ
+
+abbrev pub written : Field → List ℕ
+written f = f .tag ∷ length (f .body) / 256 ∷ length (f .body) % 256 ∷ f .body
+
+-- "Tags: 1 curve (1 byte, required), 2 bounds (16), 3 start step (8), 4 epsilon (8), 5 B (2), 6 N (2)": how long the body of each is
+unfoldable pub sizeOf : ℕ → Option ℕ
+sizeOf tag =
+    cond (eqb tag 1) (some 1)
+    (cond (eqb tag 2) (some 16)
+    (cond (eqb tag 3) (some 8)
+    (cond (eqb tag 4) (some 8)
+    (cond (eqb tag 5) (some 2)
+    (cond (eqb tag 6) (some 2)
+    none)))))
+
+-- "Tags ascend strictly; wrong length, unknown tag, cut field .. is refusal 9": the bytes are these whole fields, with tags above t
+pub data Holds : ℕ → List Field → List ℕ → Type 0 where
+  nothing : {t : ℕ} → Holds t [] []
+  field : {t : ℕ} {f : Field} {fs : List Field} {s : List ℕ} → t < f .tag → sizeOf (f .tag) ≡ some (length (f .body)) → Holds (f .tag) fs s → Holds t (f ∷ fs) (written f ++ s)
+
+-- the body of the field with a tag, where there is one
+unfoldable pub bodyOf : ℕ → List Field → Option (List ℕ)
+bodyOf tag [] = none
+bodyOf tag (f ∷ fs) = cond (eqb (f .tag) tag) (some (f .body)) (bodyOf tag fs)
+
+-- what a body says, or what stands in for it
+abbrev pub said : {A : Type 0} → (List ℕ → A) → Option (List ℕ) → A → A
+said says none other = other
+said says (some body) other = says body
+
+-- what the bodies of the tags 2 to 6 say; what is absent has its default
+unfoldable pub optionsOf : Option (List ℕ) → Option (List ℕ) → Option (List ℕ) → Option (List ℕ) → Option (List ℕ) → Options
+optionsOf bounds start epsilon budget limit = record {
+  params = record {
+    delta = defaultsOf .params .delta;
+    sigma = defaultsOf .params .sigma;
+    epsilon = said floatOf epsilon (defaultsOf .params .epsilon);
+    theta = defaultsOf .params .theta;
+    gamma = defaultsOf .params .gamma;
+    eta = defaultsOf .params .eta;
+    min = said floatOf bounds (defaultsOf .params .min);
+    max = said (λ body. floatOf (drop 8 body)) bounds (defaultsOf .params .max);
+    start = said floatOf start (defaultsOf .params .start);
+  };
+  budget = said pairOf budget (defaultsOf .budget);
+  limit = said pairOf limit (defaultsOf .limit);
+}
+
+-- with tag 1: "missing tag 1 is refusal 9"
+unfoldable pub decoded : Option (List ℕ) → Options → Answer Job
+decoded none options = refused 9
+decoded (some body) options = value (record { curve = byteAt body 0; options = options })
+
+abbrev pub meansOf : List Field → Answer Job
+meansOf fs = decoded (bodyOf 1 fs) (optionsOf (bodyOf 2 fs) (bodyOf 3 fs) (bodyOf 4 fs) (bodyOf 5 fs) (bodyOf 6 fs))

@@ -1,0 +1,40 @@
+-- How a job is read, for any bytes at all: in the order of the tags each field is there or not, and nothing may be left. That this reads 01's format, no
+-- less and no more, is proved in proofs/BothWays.antt.
+use Prim.Native.Nat.{ℕ, _+_}
+use mathlib.Core.Bool.{Bool, cond, _&&_}
+use mathlib.Core.List.{List}
+use mathlib.Core.Option.{Option, some, none}
+use lib.Dec.{leb, eqb}
+use lib.ListN.{length, take, drop}
+use Rattle.numbers.specs.Answers.{Answer, value, refused, unless_refuse_else_}
+use Rattle.wire.specs.Wire.{byteAt, pairOf}
+use Rattle.jobs.specs.declared.Job.{Job}
+use Rattle.jobs.specs.declared.Reading.{Reading}
+use Rattle.jobs.specs.declared.Reading.the-variants.{Whole, Malformed}
+use Rattle.jobs.specs.Format.{optionsOf, decoded}
+
+-- the bytes begin with a field of this tag, whose body has n bytes
+unfoldable pub begins : ℕ → ℕ → List ℕ → Bool
+begins tag n s = leb (3 + n) (length s) && eqb (byteAt s 0) tag && eqb (pairOf (drop 1 s)) n
+
+-- its body, and what stands behind it
+unfoldable pub found : ℕ → ℕ → List ℕ → Option (List ℕ)
+found tag n s = cond (begins tag n s) (some (take n (drop 3 s))) none
+
+unfoldable pub behind : ℕ → ℕ → List ℕ → List ℕ
+behind tag n s = cond (begins tag n s) (drop (3 + n) s) s
+
+abbrev pub jobOf : List ℕ → Answer Job
+jobOf s1 =
+    let s2 = behind 1 1 s1 in
+    let s3 = behind 2 16 s2 in
+    let s4 = behind 3 8 s3 in
+    let s5 = behind 4 8 s4 in
+    let s6 = behind 5 2 s5 in
+    unless (eqb (length (behind 6 2 s6)) 0) refuse 9 else
+    decoded (found 1 1 s1) (optionsOf (found 2 16 s2) (found 3 8 s3) (found 4 8 s4) (found 5 2 s5) (found 6 2 s6))
+
+-- what each case of the answer tells
+abbrev pub readTold : Reading → Answer Job
+readTold (Whole j) = value j
+readTold Malformed = refused 9

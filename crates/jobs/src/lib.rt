@@ -1,0 +1,134 @@
+// 01's jobs: tagged fields in bytes, read as the parameters of a search over one of the sample curves.
+
+use rules::Options;
+use rules::Params;
+ghost use mathlib.Core.Path.{_≡_};
+ghost use Prim.Native.Nat.{_+_, _≤_};
+ghost use lib.ListN.{length, drop};
+ghost use Rattle.wire.specs.Wire.{pairOf, floatOf};
+ghost use Rattle.jobs.specs.Format.{said, optionsOf};
+ghost use Rattle.jobs.specs.Reader.{begins, found, behind, jobOf, readTold};
+
+pub struct Job {
+    // its number, from 1
+    pub curve: u32,
+    pub options: Options,
+}
+
+pub enum Reading {
+    Whole(Job),
+    // 9
+    Malformed,
+}
+
+// Where a field may stand: the place, its tag, and the length of its body.
+struct Place(usize, u8, usize);
+
+fn stands(job: &[u8], p: Place) -> bool
+    requires { ⌜ (p .0 ≤ length (now job)) × (p .2 ≤ 16) ⌝ }
+    ensures { λ r. ⌜ r ≡ begins (p .1) (p .2) (drop (p .0) (now (job .entry))) ⌝ }
+{
+    let at = p.0;
+    if job.len() - at < 3 + p.2 {
+        return false;
+    }
+    let a = at + 1;
+    let b = at + 3;
+    (job[at] == p.1) & (wire::pair(&job[a..b]) == p.2)
+}
+
+// The place behind the field, or the same place where it is absent.
+fn next(job: &[u8], p: Place) -> usize
+    requires { ⌜ (p .0 ≤ length (now job)) × (p .2 ≤ 16) ⌝ }
+    ensures { λ r. ⌜ r ≤ length (now (job .entry)) ⌝ }
+    ensures { λ r. ⌜ drop r (now (job .entry)) ≡ behind (p .1) (p .2) (drop (p .0) (now (job .entry))) ⌝ }
+{
+    if stands(job, p) {
+        return p.0 + 3 + p.2;
+    }
+    p.0
+}
+
+// The float that starts `skip` bytes into the field's body, or the other where the field is absent.
+fn number(job: &[u8], p: Place, skip: usize, other: f64) -> f64
+    requires { ⌜ (p .0 ≤ length (now job)) × (p .2 ≤ 16) × (skip ≤ p .2) ⌝ }
+    ensures { λ r. ⌜ r ≡ said (λ body. floatOf (drop skip body)) (found (p .1) (p .2) (drop (p .0) (now (job .entry)))) other ⌝ }
+{
+    if stands(job, p) {
+        let a = p.0 + 3 + skip;
+        let b = p.0 + 3 + p.2;
+        return wire::float(&job[a..b]);
+    }
+    other
+}
+
+// The number that the field's body is, or the other where the field is absent.
+fn count(job: &[u8], p: Place, other: u32) -> u32
+    requires { ⌜ (p .0 ≤ length (now job)) × (p .2 ≡ 2) ⌝ }
+    ensures { λ r. ⌜ r ≡ said pairOf (found (p .1) (p .2) (drop (p .0) (now (job .entry)))) other ⌝ }
+{
+    if stands(job, p) {
+        let a = p.0 + 3;
+        let b = p.0 + 3 + p.2;
+        return wire::pair(&job[a..b]) as u32;
+    }
+    other
+}
+
+// What the fields 2 to 6 say, each looked for at its place, over 01's defaults.
+fn options(
+    job: &[u8],
+    bounds: usize,
+    start: usize,
+    epsilon: usize,
+    budget: usize,
+    limit: usize,
+) -> Options
+    requires { ⌜ (bounds ≤ length (now job)) × (start ≤ length (now job)) × (epsilon ≤ length (now job)) × (budget ≤ length (now job)) × (limit ≤ length (now job)) ⌝ }
+    ensures { λ r. ⌜ r ≡ optionsOf (found 2 16 (drop bounds (now (job .entry)))) (found 3 8 (drop start (now (job .entry)))) (found 4 8 (drop epsilon (now (job .entry)))) (found 5 2 (drop budget (now (job .entry)))) (found 6 2 (drop limit (now (job .entry)))) ⌝ }
+{
+    let d = rules::defaults();
+    let p = d.params;
+    let min = number(job, Place(bounds, 2, 16), 0, p.min);
+    let max = number(job, Place(bounds, 2, 16), 8, p.max);
+    let first = number(job, Place(start, 3, 8), 0, p.start);
+    let factor = number(job, Place(epsilon, 4, 8), 0, p.epsilon);
+    let most = count(job, Place(budget, 5, 2), d.budget);
+    let last = count(job, Place(limit, 6, 2), d.limit);
+    Options {
+        params: Params {
+            delta: p.delta,
+            sigma: p.sigma,
+            epsilon: factor,
+            theta: p.theta,
+            gamma: p.gamma,
+            eta: p.eta,
+            min,
+            max,
+            start: first,
+        },
+        budget: most,
+        limit: last,
+    }
+}
+
+// The job, for any bytes: in the order of the tags each field is there or not, and nothing may be left.
+pub fn read(job: &[u8]) -> Reading
+    ensures { λ r. ⌜ readTold r ≡ jobOf (now (job .entry)) ⌝ }
+{
+    if !stands(job, Place(0, 1, 1)) {
+        return Reading::Malformed;
+    }
+    let bounds = 4;
+    let start = next(job, Place(bounds, 2, 16));
+    let epsilon = next(job, Place(start, 3, 8));
+    let budget = next(job, Place(epsilon, 4, 8));
+    let limit = next(job, Place(budget, 5, 2));
+    if next(job, Place(limit, 6, 2)) != job.len() {
+        return Reading::Malformed;
+    }
+    Reading::Whole(Job {
+        curve: wire::byte(&job[3..4], 0) as u32,
+        options: options(job, bounds, start, epsilon, budget, limit),
+    })
+}
