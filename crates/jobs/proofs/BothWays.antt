@@ -1,0 +1,275 @@
+-- The reader reads 01's format, no less and no more: bytes that hold fields in 01's form are read as what these say (`format-is-read`), and whatever is read as a job is
+-- such bytes (`read-is-format`); any others are refused by 9 (`refused-otherwise`). The longest job has 55 bytes (`longest`). Assumes nothing.
+use mathlib.Core.Path.{_≡_, refl, sym, ap, ap₂, _∙_, subst}
+use mathlib.Core.Bool.{Bool, true, false, cond, _&&_}
+use mathlib.Core.List.{List, [], _∷_, _++_}
+use mathlib.Core.Option.{Option, some, none}
+use Prim.Native.Nat.{ℕ, zero, suc, _+_, _-_, _*_, _/_, _%_, _≤_, _<_}
+use native.Mathlib.Nat.{div-add-mod'}
+use native.Mathlib.Omega.{arith}
+use lib.Dec.{leb, eqb}
+use lib.ListN.{length, take, drop, length-append, length-drop, take-append-drop}
+use lib.Seq.{take-append-seam, drop-append-seam, drop-drop, length-take-le}
+use borrow.Author.Tests.{le-leb, lt-leb, eq-eqb, ne-eqb, leb-true, eqb-true, eqb-false}
+use Rattle.outcomes.proofs.Branches.{and-first, and-second}
+use Rattle.numbers.specs.Answers.{Answer, value, refused}
+use Rattle.rules.specs.declared.Options.{Options}
+use Rattle.wire.specs.Wire.{byteAt, pairOf}
+use Rattle.jobs.specs.declared.Job.{Job}
+use Rattle.jobs.specs.Format.{Field, written, sizeOf, Holds, nothing, field, bodyOf, optionsOf, decoded, meansOf}
+use Rattle.jobs.specs.Reader.{begins, found, behind, jobOf}
+
+-- ---- a written field is found, and no other
+
+module _ (f : Field) (s : List ℕ) where
+  begins-written : begins (f .tag) (length (f .body)) (written f ++ s) ≡ true
+  unfolding begins
+  begins-written =
+      let n = length (f .body) in
+      let l : 3 + n ≤ length (written f ++ s) = simp length-append (omega arith) in
+      rw (le-leb (3 + n) (length (written f ++ s)) l, eq-eqb (f .tag) (f .tag) refl, eq-eqb (n / 256 * 256 + n % 256) n (div-add-mod' n 256))
+
+  body-written : found (f .tag) (length (f .body)) (written f ++ s) ≡ some (f .body)
+  unfolding found
+  body-written = rw (begins-written, take-append-seam (f .body) s)
+
+  behind-written : behind (f .tag) (length (f .body)) (written f ++ s) ≡ s
+  unfolding behind
+  behind-written = rw (begins-written, ← drop-drop (length (f .body)) 3 (written f ++ s), drop-append-seam (f .body) s)
+
+  -- a field with another tag is not this one
+  not-begins : (k n : ℕ) → eqb (f .tag) k ≡ false → begins k n (written f ++ s) ≡ false
+  unfolding begins
+  not-begins k n h = rw h (pick (leb (3 + n) (length (written f ++ s))) (eqb (pairOf (drop 1 (written f ++ s))) n))
+    where
+      pick : (a b : Bool) → (a && false && b) ≡ false
+      pick true b = refl
+      pick false b = refl
+
+-- ---- fields with tags above t hold no body of a tag up to t
+absent : {t : ℕ} {fs : List Field} {s : List ℕ} → Holds t fs s → (m : ℕ) → m ≤ t → bodyOf m fs ≡ none
+unfolding bodyOf
+absent nothing m h = refl
+absent (field {f = f} above known more) m h = rw (ne-eqb (f .tag) m (λ (e : f .tag ≡ m). omega arith)) (absent more m (omega arith))
+
+same-size : (m k n l : ℕ) → m ≡ k → sizeOf m ≡ some l → sizeOf k ≡ some n → l ≡ n
+same-size m k n l e p q = cc
+
+-- ---- one tag after the other: what the reader finds at the tag k is what the fields hold, and what is behind it holds the others
+record Passed (k n : ℕ) (fs : List Field) (s : List ℕ) : Type 0 where
+  others : List Field
+  holds : Holds k others (behind k n s)
+  body : found k n s ≡ bodyOf k fs
+  same : (m : ℕ) → k < m → bodyOf m others ≡ bodyOf m fs
+
+record Left (t : ℕ) (all : List Field) (s : List ℕ) : Type 0 where
+  fields : List Field
+  holds : Holds t fields s
+  same : (m : ℕ) → t < m → bodyOf m fields ≡ bodyOf m all
+
+module _ (t k n : ℕ) (next : k ≡ suc t) (known : sizeOf k ≡ some n) where
+  at-end : Passed k n [] []
+  unfolding behind found begins bodyOf
+  at-end =
+      let e : leb (3 + n) 0 ≡ false = lt-leb (3 + n) 0 (omega arith) in
+      record { others = []; holds = rw e nothing; body = rw e; same = λ m h. refl }
+
+  module _ (f : Field) (fs : List Field) (s : List ℕ) (above : t < f .tag) (size : sizeOf (f .tag) ≡ some (length (f .body))) (more : Holds (f .tag) fs s) where
+    this-tag : eqb (f .tag) k ≡ true → Passed k n (f ∷ fs) (written f ++ s)
+    unfolding bodyOf
+    this-tag e =
+        let p : f .tag ≡ k = eqb-true (f .tag) k e in
+        let q : length (f .body) ≡ n = same-size (f .tag) k n (length (f .body)) p size known in
+        let b : behind k n (written f ++ s) ≡ s = ap₂ (λ (i j : ℕ). behind i j (written f ++ s)) (sym p) (sym q) ∙ behind-written f s in
+        let w : found k n (written f ++ s) ≡ some (f .body) = ap₂ (λ (i j : ℕ). found i j (written f ++ s)) (sym p) (sym q) ∙ body-written f s in
+        record {
+          others = fs;
+          holds = rw b (subst (λ (i : ℕ). Holds i fs s) p more);
+          body = rw e w;
+          same = λ m h. rw (ne-eqb (f .tag) m (λ (g : f .tag ≡ m). omega arith));
+        }
+
+    other-tag : eqb (f .tag) k ≡ false → Passed k n (f ∷ fs) (written f ++ s)
+    unfolding behind found bodyOf
+    other-tag e =
+        let d = eqb-false (f .tag) k e in
+        let b = not-begins f s k n e in
+        let l : k < f .tag = omega arith in
+        record {
+          others = f ∷ fs;
+          holds = rw b (field l size more);
+          body = rw (b, e) (sym (absent more k (omega arith)));
+          same = λ m h. refl;
+        }
+
+  passed : (fs : List Field) (s : List ℕ) → Holds t fs s → Passed k n fs s
+  passed [] [] nothing = at-end
+  passed (f ∷ fs) s (field {s = s'} above size more) = by-tag (eqb (f .tag) k) refl
+    where
+      by-tag : (b : Bool) → eqb (f .tag) k ≡ b → Passed k n (f ∷ fs) (written f ++ s')
+      by-tag true e = this-tag f fs s' above size more e
+      by-tag false e = other-tag f fs s' above size more e
+
+  -- the same, for bytes that hold what is left of some fields
+  step : (all : List Field) (s : List ℕ) → Left t all s → (found k n s ≡ bodyOf k all) × Left k all (behind k n s)
+  step all s a =
+      let p = passed (a .fields) s (a .holds) in
+      (p .body ∙ a .same k (omega arith), record { fields = p .others; holds = p .holds; same = λ m l. p .same m l ∙ a .same m (omega arith) })
+
+-- there is no tag above 6
+unknown : (tag n : ℕ) → 6 < tag → sizeOf tag ≡ some n → ⊥
+unfolding sizeOf
+unknown tag n h e =
+    let far : (k : ℕ) → k ≤ 6 → eqb tag k ≡ false = λ k l. ne-eqb tag k (λ (g : tag ≡ k). omega arith) in
+    let z : none ≡ some n = rw (far 1 (omega arith), far 2 (omega arith), far 3 (omega arith), far 4 (omega arith), far 5 (omega arith), far 6 (omega arith)) at e in
+    let o : _≡_ {A = ℕ} 0 1 = cc in
+    omega arith
+
+none-left : (fs : List Field) (s : List ℕ) → Holds 6 fs s → length s ≡ 0
+none-left [] [] nothing = refl
+none-left (f ∷ fs) s (field above size more) = absurd (unknown (f .tag) (length (f .body)) above size)
+
+-- bytes that hold fields in 01's form are read as what these say
+pub format-is-read : (fs : List Field) (s : List ℕ) → Holds 0 fs s → jobOf s ≡ meansOf fs
+unfolding sizeOf
+format-is-read fs s h =
+    let p1 = step 0 1 1 refl refl fs s (record { fields = fs; holds = h; same = λ m l. refl }) in
+    let p2 = step 1 2 16 refl refl fs _ (p1 .1) in
+    let p3 = step 2 3 8 refl refl fs _ (p2 .1) in
+    let p4 = step 3 4 8 refl refl fs _ (p3 .1) in
+    let p5 = step 4 5 2 refl refl fs _ (p4 .1) in
+    let p6 = step 5 6 2 refl refl fs _ (p5 .1) in
+    rw (none-left (p6 .1 .fields) _ (p6 .1 .holds), p1 .0, p2 .0, p3 .0, p4 .0, p5 .0, p6 .0)
+
+-- ---- backwards: what is behind a tag holds fields, and so do the bytes before it
+pub record Formed (t : ℕ) (s : List ℕ) : Type 0 where
+  pub fields : List Field
+  pub holds : Holds t fields s
+
+weaker : {k : ℕ} {fs : List Field} {s : List ℕ} (t : ℕ) → t ≤ k → Holds k fs s → Holds t fs s
+weaker t l nothing = nothing
+weaker t l (field {t = k} {f = f} above size more) = let a : t < f .tag = omega arith in field a size more
+
+-- the bytes of a field that is there, for the short bodies that 01 has
+record Begun (k n : ℕ) (s : List ℕ) : Type 0 where
+  long : 3 + n ≤ length s
+  tag : byteAt s 0 ≡ k
+  size : pairOf (drop 1 s) ≡ n
+
+begun : (k n : ℕ) (s : List ℕ) → begins k n s ≡ true → Begun k n s
+unfolding begins
+begun k n s h =
+    let l = leb (3 + n) (length s) in
+    let t = eqb (byteAt s 0) k in
+    let p = eqb (pairOf (drop 1 s)) n in
+    record {
+      long = leb-true (3 + n) (length s) (and-first l t (and-first (l && t) p h));
+      tag = eqb-true (byteAt s 0) k (and-second l t (and-first (l && t) p h));
+      size = eqb-true (pairOf (drop 1 s)) n (and-second (l && t) p h);
+    }
+
+split : (k n : ℕ) (s : List ℕ) → n < 256 → n / 256 ≡ 0 → n % 256 ≡ n → Begun k n s → s ≡ written (record { tag = k; body = take n (drop 3 s) }) ++ drop (3 + n) s
+split k n [] small hi lo h = absurd (let l = h .long in omega arith)
+split k n (a ∷ []) small hi lo h = absurd (let l = h .long in omega arith)
+split k n (a ∷ b ∷ []) small hi lo h = absurd (let l = h .long in omega arith)
+split k n (a ∷ b ∷ c ∷ s) small hi lo h =
+    let l = h .long in
+    let z = h .size in
+    let first : b ≡ 0 = omega arith in
+    let second : c ≡ n = omega arith in
+    let len : length (take n s) ≡ n = length-take-le n s (omega arith) in
+    let back : drop (3 + n) (a ∷ b ∷ c ∷ s) ≡ drop n s = sym (drop-drop n 3 (a ∷ b ∷ c ∷ s)) in
+    rw (len, hi, lo, back, first, second, h .tag, take-append-drop n s)
+
+abbrev first : ℕ → ℕ → List ℕ → Field
+first k n s = record { tag = k; body = take n (drop 3 s) }
+
+back : (t k n : ℕ) → t < k → sizeOf k ≡ some n → n < 256 → n / 256 ≡ 0 → n % 256 ≡ n → (s : List ℕ) → Formed k (behind k n s) → Formed t s
+unfolding behind
+back t k n above known small hi lo s m = by-test (begins k n s) refl
+  where
+    by-test : (b : Bool) → begins k n s ≡ b → Formed t s
+    by-test true e =
+        let g = begun k n s e in
+        let long = g .long in
+        let len : length (take n (drop 3 s)) ≡ n = length-take-le n (drop 3 s) (simp length-drop (omega arith)) in
+        let size : sizeOf k ≡ some (length (take n (drop 3 s))) = known ∙ ap some (sym len) in
+        let rest : Holds k (m .fields) (drop (3 + n) s) = rw e at (m .holds) in
+        let whole : Holds t (first k n s ∷ m .fields) (written (first k n s) ++ drop (3 + n) s) = field above size rest in
+        record { fields = first k n s ∷ m .fields; holds = subst (λ (l : List ℕ). Holds t (first k n s ∷ m .fields) l) (sym (split k n s small hi lo g)) whole }
+    by-test false e = record { fields = m .fields; holds = weaker t (omega arith) (rw e at (m .holds)) }
+
+at-the-end : (s : List ℕ) → length s ≡ 0 → Formed 6 s
+at-the-end [] h = record { fields = []; holds = nothing }
+at-the-end (x ∷ s) h = absurd (omega arith)
+
+-- what is left behind the last tag, and what was said
+abbrev left : List ℕ → List ℕ
+left s = behind 6 2 (behind 5 2 (behind 4 8 (behind 3 8 (behind 2 16 (behind 1 1 s)))))
+
+abbrev whole : List ℕ → Answer Job
+whole s1 =
+    let s2 = behind 1 1 s1 in
+    let s3 = behind 2 16 s2 in
+    let s4 = behind 3 8 s3 in
+    let s5 = behind 4 8 s4 in
+    let s6 = behind 5 2 s5 in
+    decoded (found 1 1 s1) (optionsOf (found 2 16 s2) (found 3 8 s3) (found 4 8 s4) (found 5 2 s5) (found 6 2 s6))
+
+formed : (s : List ℕ) → length (left s) ≡ 0 → Formed 0 s
+unfolding sizeOf
+formed s h =
+    back 0 1 1 (omega arith) refl (omega arith) refl refl s
+    (back 1 2 16 (omega arith) refl (omega arith) refl refl _
+    (back 2 3 8 (omega arith) refl (omega arith) refl refl _
+    (back 3 4 8 (omega arith) refl (omega arith) refl refl _
+    (back 4 5 2 (omega arith) refl (omega arith) refl refl _
+    (back 5 6 2 (omega arith) refl (omega arith) refl refl _ (at-the-end (left s) h))))))
+
+-- fields in 01's form that say the job j
+pub record Encodes (s : List ℕ) (j : Job) : Type 0 where
+  pub fields : List Field
+  pub holds : Holds 0 fields s
+  pub means : meansOf fields ≡ value j
+
+not-refused : (b : Bool) (a : Answer Job) (j : Job) → cond b a (refused 9) ≡ value j → b ≡ true
+not-refused true a j e = refl
+not-refused false a j e = let z : _≡_ {A = ℕ} 0 1 = cc in absurd (omega arith)
+
+nothing-left : (s : List ℕ) (j : Job) → jobOf s ≡ value j → length (left s) ≡ 0
+nothing-left s j e = eqb-true (length (left s)) 0 (not-refused (eqb (length (left s)) 0) (whole s) j e)
+
+-- whatever is read as a job is such bytes
+pub read-is-format : (s : List ℕ) (j : Job) → jobOf s ≡ value j → Encodes s j
+read-is-format s j e =
+    let f = formed s (nothing-left s j e) in
+    record { fields = f .fields; holds = f .holds; means = sym (format-is-read (f .fields) s (f .holds)) ∙ e }
+
+-- and any others are refused by 9
+value-or-nine : (b : Bool) (body : Option (List ℕ)) (o : Options) → ((j : Job) → cond b (decoded body o) (refused 9) ≡ value j → ⊥) → cond b (decoded body o) (refused 9) ≡ refused 9
+unfolding decoded
+value-or-nine true (some body) o never = absurd (never _ refl)
+value-or-nine true none o never = refl
+value-or-nine false body o never = refl
+
+pub refused-otherwise : (s : List ℕ) → ((j : Job) → Encodes s j → ⊥) → jobOf s ≡ refused 9
+refused-otherwise s never =
+    value-or-nine (eqb (length (left s)) 0) (found 1 1 s) _ (λ (j : Job) (e : jobOf s ≡ value j). never j (read-is-format s j e))
+
+-- ---- "1 curve (1 byte, required), 2 bounds (16), 3 start step (8), 4 epsilon (8), 5 B (2), 6 N (2)", each behind three bytes: at most 55
+shortens : (k n : ℕ) (s : List ℕ) → length s ≤ 3 + n + length (behind k n s)
+unfolding behind
+shortens k n s = by-test (begins k n s)
+  where
+    by-test : (b : Bool) → length s ≤ 3 + n + length (cond b (drop (3 + n) s) s)
+    by-test true = let l : length (drop (3 + n) s) ≡ length s - (3 + n) = length-drop (3 + n) s in omega arith
+    by-test false = omega arith
+
+pub longest : (s : List ℕ) (j : Job) → jobOf s ≡ value j → length s ≤ 55
+longest s1 j e =
+    let s2 = behind 1 1 s1 in
+    let s3 = behind 2 16 s2 in
+    let s4 = behind 3 8 s3 in
+    let s5 = behind 4 8 s4 in
+    let s6 = behind 5 2 s5 in
+    omega (arith, nothing-left s1 j e, shortens 1 1 s1, shortens 2 16 s2, shortens 3 8 s3, shortens 4 8 s4, shortens 5 2 s5, shortens 6 2 s6)
