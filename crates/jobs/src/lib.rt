@@ -1,5 +1,10 @@
 // 01's jobs: tagged fields in bytes, read as the parameters of a search over one of the sample curves.
 
+use curves::Curve;
+use curves::Known;
+use hagerzhang::Started;
+use hagerzhang::Step;
+use outcomes::Refusal;
 use rules::Options;
 use rules::Params;
 ghost use mathlib.Core.Path.{_≡_};
@@ -8,6 +13,11 @@ ghost use lib.ListN.{length, drop};
 ghost use Rattle.wire.specs.Wire.{pairOf, floatOf};
 ghost use Rattle.jobs.specs.Format.{said, optionsOf};
 ghost use Rattle.jobs.specs.Reader.{begins, found, behind, jobOf, readTold};
+ghost use Rattle.jobs.specs.Start.{startedOn, beginsBy, beginOf, openedTold};
+ghost use Rattle.numbers.specs.Answers.{value};
+ghost use Rattle.floats.specs.Arithmetic.{0ᶠ};
+ghost use Rattle.curves.specs.Curves.{valueOf, slopeOf};
+ghost use Rattle.hagerzhang.specs.Machine.{startOf};
 
 pub struct Job {
     // its number, from 1
@@ -19,6 +29,15 @@ pub enum Reading {
     Whole(Job),
     // 9
     Malformed,
+}
+
+// What a job begins: a search over a curve, which has asked its first step; or none.
+pub enum Opened {
+    Begun(Curve, Step),
+    // 2, 3 or 4
+    NoSearch(Refusal),
+    // 9
+    Unreadable,
 }
 
 // Where a field may stand: the place, its tag, and the length of its body.
@@ -131,4 +150,37 @@ pub fn read(job: &[u8]) -> Reading
         curve: wire::byte(&job[3..4], 0) as u32,
         options: options(job, bounds, start, epsilon, budget, limit),
     })
+}
+
+fn search_over(c: Curve, o: Options) -> Opened
+    ensures { λ r. ⌜ openedTold r ≡ startedOn c (startOf o (valueOf c 0ᶠ) (slopeOf c 0ᶠ)) ⌝ }
+{
+    match hagerzhang::start(o, c.value(0.0), c.slope(0.0)) {
+        Started::Began(t) => Opened::Begun(c, t),
+        Started::NoSearch(k) => Opened::NoSearch(k),
+    }
+}
+
+// Any number that is not finite (2) comes before the curve's number and the ranges (3), and these before epsilon_k and L (4).
+fn start(j: Job) -> Opened
+    ensures { λ r. ⌜ openedTold r ≡ beginsBy (value j) ⌝ }
+{
+    let o = j.options;
+    if !rules::supplied_finite(o, 0.0, 0.0) {
+        return Opened::NoSearch(Refusal::SuppliedNotFinite);
+    }
+    match curves::numbered(j.curve) {
+        Known::Found(c) => search_over(c, o),
+        Known::Unknown(k) => Opened::NoSearch(k),
+    }
+}
+
+// The search of a job, for any bytes.
+pub fn begin(job: &[u8]) -> Opened
+    ensures { λ r. ⌜ openedTold r ≡ beginOf (now (job .entry)) ⌝ }
+{
+    match read(job) {
+        Reading::Whole(j) => start(j),
+        Reading::Malformed => Opened::Unreadable,
+    }
 }
