@@ -1,0 +1,46 @@
+-- How a search is played, turn by turn: the bookkeeping that the contracts cite. That this tells what 01's rules tell is proved in proofs/Rules.antt.
+use Prim.Native.Nat.{ℕ, zero, suc}
+use mathlib.Core.List.{List, [], _∷_}
+use lib.Ieee.{Float}
+use Rattle.outcomes.specs.Outcomes.{told}
+use Rattle.outcomes.specs.Counters.{iterations}
+use Rattle.outcomes.specs.declared.Outcome.{Outcome}
+use Rattle.outcomes.specs.declared.Outcome.the-variants.{Ask, Stop, Limit, Refused}
+use Rattle.outcomes.specs.declared.Iterations.{Iterations}
+use Rattle.curves.specs.declared.Curve.{Curve}
+use Rattle.curves.specs.Curves.{valueOf, slopeOf}
+use Rattle.hagerzhang.specs.declared.Search.{Search}
+use Rattle.hagerzhang.specs.declared.Step.{Step}
+use Rattle.hagerzhang.specs.Machine.{answerOf}
+use Rattle.hagerzhang.specs.Meaning.{report}
+use Rattle.play.specs.declared.Played.{Played}
+use Rattle.play.specs.declared.Played.the-variants.{On, Over}
+use Rattle.play.specs.Telling.{Said, iterationsIn}
+
+abbrev pub finishedOf : Search → ℕ
+finishedOf s = iterationsIn (report s)
+
+-- what a step says
+abbrev pub saidOf : Step → Said
+saidOf t = record { told = told (t .outcome); evaluations = t .search .evaluations .0; iterations = finishedOf (t .search) }
+
+-- what follows it: the curve answers a step that is asked; any other outcome is the last
+unfoldable pub answeredBy : Curve → Search → Outcome → Played
+answeredBy c s (Ask x) = On (answerOf s (valueOf c x) (slopeOf c x))
+answeredBy c s (Stop v x) = Over
+answeredBy c s (Limit x) = Over
+answeredBy c s (Refused k) = Over
+
+abbrev pub nextOf : Curve → Step → Played
+nextOf c t = answeredBy c (t .search) (t .outcome)
+
+-- n turns: what is said in them, and what is left
+unfoldable pub saidIn : ℕ → Curve → Played → List Said
+saidIn zero c p = []
+saidIn (suc n) c Over = []
+saidIn (suc n) c (On t) = saidOf t ∷ saidIn n c (nextOf c t)
+
+unfoldable pub leftAfter : ℕ → Curve → Played → Played
+leftAfter zero c p = p
+leftAfter (suc n) c Over = Over
+leftAfter (suc n) c (On t) = leftAfter n c (nextOf c t)
