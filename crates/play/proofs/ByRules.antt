@@ -1,0 +1,220 @@
+-- A play tells what 01's rules tell with the curve's answers: turn after turn (`plays`), all of it by the time the play is over (`told-all`), and it is over after as many
+-- turns as there is to tell (`over-in-time`). Assumes nothing.
+use mathlib.Core.Path.{_≡_, refl, sym, ap, _∙_, subst}
+use mathlib.Core.Bool.{Bool, true, false, cond}
+use mathlib.Core.List.{List, [], _∷_, _++_, append-nil}
+use Prim.Native.Nat.{ℕ, zero, suc, _+_, _-_, _≤_, _<_}
+use native.Mathlib.Nat.{not-suc-le-zero, le-of-suc-le-suc}
+use native.Mathlib.Omega.{arith}
+use lib.Dec.{ltb}
+use lib.ListN.{length, length-append}
+use lib.Ieee.{Float}
+use borrow.Author.Tests.{lt-ltb}
+use Rattle.outcomes.specs.Outcomes.{asks, ends, told}
+use Rattle.outcomes.specs.Asking.{Search as Run, Over as Ended, ask, end, respond, shown, reported, rest}
+use Rattle.outcomes.specs.Counters.{counted}
+use Rattle.outcomes.proofs.Branches.{either, by-test}
+use Rattle.outcomes.proofs.Ends.{Ends, at-end, at-ask}
+use Rattle.outcomes.proofs.Determined.{told-determined}
+use Rattle.outcomes.specs.declared.Outcome.{Outcome}
+use Rattle.outcomes.specs.declared.Outcome.the-variants.{Ask, Stop, Limit, Refused}
+use Rattle.rules.specs.declared.Setup.{Setup}
+use Rattle.rules.specs.Rules.{answerFinite, Report}
+use Rattle.curves.specs.declared.Curve.{Curve}
+use Rattle.curves.specs.Curves.{valueOf, slopeOf}
+use Rattle.hagerzhang.specs.declared.Stage.{Stage}
+use Rattle.hagerzhang.specs.declared.Stage.the-variants.{Open, Over as OverStage}
+use Rattle.hagerzhang.specs.declared.Search.{Search}
+use Rattle.hagerzhang.specs.declared.Step.{Step}
+use Rattle.hagerzhang.specs.Machine.{takenOf, answerBy, answerOf}
+use Rattle.hagerzhang.specs.Meaning.{stageReport, report, meaning, meant}
+use Rattle.hagerzhang.proofs.Bridge.{follows}
+use Rattle.play.specs.declared.Played.{Played}
+use Rattle.play.specs.declared.Played.the-variants.{On, Over}
+use Rattle.play.specs.Telling.{Said, iterationsIn, telling}
+use Rattle.play.specs.Playing.{saidOf, answeredBy, nextOf, saidIn, leftAfter}
+
+-- ---- what an answer leaves as it was, what it counts, and what a state reports
+setup-kept : (b : Search) (f g : Float) (stage : Stage) → answerBy b f g stage .search .setup ≡ b .setup
+unfolding answerBy takenOf
+setup-kept b f g (Open waiting) = either (λ (r : Step). r .search .setup) (answerFinite f g) _ _ (b .setup) refl refl
+setup-kept b f g (OverStage kept) = refl
+
+one-more : (a : Bool) (n : ℕ) → n < 4294967295 → cond a (counted n) n ≡ n + cond a 1 0
+unfolding counted
+one-more true n h = rw (lt-ltb n 4294967295 h)
+one-more false n h = omega arith
+
+counts-on : (b : Search) (f g : Float) (stage : Stage) (k : Report) (x : Float) (then : Float → Float → Run Report) → meaning (b .setup) stage ≡ ask k x then
+    → b .evaluations .0 < 4294967295 → answerBy b f g stage .search .evaluations .0 ≡ b .evaluations .0 + cond (answerFinite f g) 1 0
+unfolding answerBy takenOf meaning
+counts-on b f g (Open waiting) k x then e h =
+    by-test (λ (r : Step). r .search .evaluations .0) (answerFinite f g) _ _ (counted (b .evaluations .0)) (b .evaluations .0) refl refl
+    ∙ one-more (answerFinite f g) (b .evaluations .0) h
+counts-on b f g (OverStage kept) k x then e h = let z : _≡_ {A = ℕ} 0 1 = cc in absurd (omega arith)
+
+reports : (s : Setup) (stage : Stage) → stageReport stage ≡ reported (meaning s stage)
+unfolding meaning reported stageReport
+reports s (Open waiting) = refl
+reports s (OverStage kept) = refl
+
+-- ---- a step stands where a run of the rules stands that has made e evaluations and ends within m answers
+module _ (s : Setup) (fits : s .options .limit < 4294967296) (c : Curve) where
+  pub record Stands (e m : ℕ) (t : Step) (r : Run Report) : Type 0 where
+    pub same-setup : t .search .setup ≡ s
+    pub tells : told (t .outcome) ≡ shown r
+    pub leaves : meant (t .search) ≡ rest r
+    pub counts : t .search .evaluations .0 ≡ e
+    pub within : Ends m r
+    pub few : e + m < 4294967295
+
+  -- what a play has still to tell
+  pub data Matches : Played → List Said → Type 0 where
+    at-over : Matches Over []
+    at-step : {e m : ℕ} {t : Step} {r : Run Report} → Stands e m t r → Matches (On t) (telling c e r)
+
+  -- one turn tells the first of it, and leaves the others
+  record Turn (t : Step) (l : List Said) : Type 0 where
+    others : List Said
+    first : l ≡ saidOf t ∷ others
+    matches : Matches (nextOf c t) others
+
+  reported-by : (b : Search) (r : Run Report) → meant b ≡ r → iterationsIn (report b) ≡ iterationsIn (reported r)
+  reported-by b r e = ap iterationsIn (reports (b .setup) (b .stage) ∙ ap reported e)
+
+  module _ (e m : ℕ) (t : Step) where
+    module _ (k : Report) (x : Float) (then : Float → Float → Run Report) (at : Stands e (suc m) t (ask k x then)) (more : (f g : Float) → Ends m (then f g)) where
+      abbrev f : Float
+      f = valueOf c x
+
+      abbrev g : Float
+      g = slopeOf c x
+
+      abbrev t' : Step
+      t' = answerOf (t .search) f g
+
+      is-run : meant (t .search) ≡ ask k x then
+      unfolding rest
+      is-run = at .leaves
+
+      asked : t .outcome ≡ Ask x
+      unfolding shown
+      asked = told-determined (t .outcome) (Ask x) (at .tells)
+
+      limit-fits : t .search .setup .options .limit < 4294967296
+      limit-fits = rw (at .same-setup) fits
+
+      abbrev e' : ℕ
+      e' = e + cond (answerFinite f g) 1 0
+
+      at-most-one : (a : Bool) → e + cond a 1 0 + m < 4294967295
+      at-most-one true = let h = at .few in omega arith
+      at-most-one false = let h = at .few in omega arith
+
+      responds : respond (meant (t .search)) f g ≡ then f g
+      unfolding respond
+      responds = rw is-run
+
+      stands-next : Stands e' m t' (then f g)
+      stands-next =
+          let z = follows (t .search) limit-fits f g t' refl in
+          let h = at .few in
+          let n = at .counts in
+          record {
+            same-setup = setup-kept (t .search) f g (t .search .stage) ∙ at .same-setup;
+            tells = z .tells ∙ ap shown responds;
+            leaves = z .leaves ∙ ap rest responds;
+            counts = counts-on (t .search) f g (t .search .stage) k x then is-run (omega arith) ∙ ap (λ (i : ℕ). i + cond (answerFinite f g) 1 0) n;
+            within = more f g;
+            few = at-most-one (answerFinite f g);
+          }
+
+      goes-on : nextOf c t ≡ On t'
+      unfolding answeredBy
+      goes-on = rw asked
+
+      says-so : record { told = asks x; evaluations = e; iterations = iterationsIn k } ≡ saidOf t
+      unfolding reported
+      says-so = rw (asked, at .counts, reported-by (t .search) (ask k x then) is-run)
+
+      asks-turn : Turn t (telling c e (ask k x then))
+      unfolding telling
+      asks-turn = record {
+        others = telling c e' (then f g);
+        first = ap (λ (a : Said). a ∷ telling c e' (then f g)) says-so;
+        matches = subst (λ (p : Played). Matches p (telling c e' (then f g))) (sym goes-on) (at-step stands-next);
+      }
+
+    module _ (o : Ended Report) (at : Stands e m t (end o)) where
+      stops-at : (q : Outcome) → told q ≡ ends (o .by) → answeredBy c (t .search) q ≡ Over
+      unfolding answeredBy
+      stops-at (Ask x) h = let z : _≡_ {A = ℕ} 0 1 = cc in absurd (omega arith)
+      stops-at (Stop v x) h = refl
+      stops-at (Limit x) h = refl
+      stops-at (Refused n) h = refl
+
+      is-told : told (t .outcome) ≡ ends (o .by)
+      unfolding shown
+      is-told = at .tells
+
+      keeps-report : iterationsIn (report (t .search)) ≡ iterationsIn (o .keeps)
+      unfolding rest reported
+      keeps-report = reported-by (t .search) (rest (end o)) (at .leaves)
+
+      ends-so : record { told = ends (o .by); evaluations = e; iterations = iterationsIn (o .keeps) } ≡ saidOf t
+      ends-so = rw (is-told, at .counts, keeps-report)
+
+      end-turn : Turn t (telling c e (end o))
+      unfolding telling
+      end-turn = record {
+        others = [];
+        first = ap (λ (a : Said). a ∷ []) ends-so;
+        matches = subst (λ (p : Played). Matches p []) (sym (stops-at (t .outcome) is-told)) at-over;
+      }
+
+  turn : (e m : ℕ) (t : Step) (r : Run Report) → Ends m r → Stands e m t r → Turn t (telling c e r)
+  turn e m t (end o) w at = end-turn e m t o at
+  turn e (suc m) t (ask k x then) (at-ask more) at = asks-turn e m t k x then at more
+
+  turn-of : (t : Step) (l : List Said) → Matches (On t) l → Turn t l
+  turn-of t l (at-step {e} {m} {r = r} at) = turn e m t r (at .within) at
+
+  -- n turns tell the first n outcomes at most, and leave the others
+  pub record Goes (n : ℕ) (p : Played) (l : List Said) : Type 0 where
+    pub others : List Said
+    pub split : l ≡ saidIn n c p ++ others
+    pub matches : Matches (leftAfter n c p) others
+
+  pub plays : (n : ℕ) (p : Played) (l : List Said) → Matches p l → Goes n p l
+  unfolding saidIn leftAfter
+  plays zero p l h = record { others = l; split = refl; matches = h }
+  plays (suc n) Over [] at-over = record { others = []; split = refl; matches = at-over }
+  plays (suc n) (On t) l h =
+      let z = turn-of t l h in
+      let more = plays n (nextOf c t) (z .others) (z .matches) in
+      record { others = more .others; split = z .first ∙ ap (λ (a : List Said). saidOf t ∷ a) (more .split); matches = more .matches }
+
+  nothing-left : (p : Played) (l : List Said) → Matches p l → p ≡ Over → l ≡ []
+  nothing-left Over [] at-over e = refl
+  nothing-left (On t) l h e = let z : _≡_ {A = ℕ} 0 1 = cc in absurd (omega arith)
+
+  -- once a play is over, all is told
+  pub told-all : (n : ℕ) (p : Played) (l : List Said) → Matches p l → leftAfter n c p ≡ Over → saidIn n c p ≡ l
+  told-all n p l h e =
+      let g = plays n p l h in
+      let z : g .others ≡ [] = nothing-left (leftAfter n c p) (g .others) (g .matches) e in
+      sym (g .split ∙ ap (λ (a : List Said). saidIn n c p ++ a) z ∙ append-nil (saidIn n c p))
+
+  -- and it is over after as many turns as there is to tell
+  pub over-in-time : (n : ℕ) (p : Played) (l : List Said) → Matches p l → length l ≤ n → leftAfter n c p ≡ Over
+  unfolding leftAfter
+  over-in-time zero Over [] at-over h = refl
+  over-in-time zero (On t) l m h =
+      let z = turn-of t l m in
+      let k : length l ≡ suc (length (z .others)) = ap length (z .first) in
+      absurd (omega arith)
+  over-in-time (suc n) Over [] at-over h = refl
+  over-in-time (suc n) (On t) l m h =
+      let z = turn-of t l m in
+      let k : length l ≡ suc (length (z .others)) = ap length (z .first) in
+      over-in-time n (nextOf c t) (z .others) (z .matches) (omega arith)
