@@ -1,0 +1,153 @@
+-- What is written for a job is 01's text for it: a job that begins is played by the rules (`begun-plays`), its lines are the whole text once the play is over (`output-told`),
+-- there are at most 30,030,004 of them (`few-lines`), and a job that does not begin has its refusal's line (`output-refused`). Assumes nothing.
+use mathlib.Core.Path.{_≡_, refl, sym, ap, _∙_, subst}
+use mathlib.Core.Bool.{Bool, true, false, cond, _&&_}
+use mathlib.Core.List.{List, [], _∷_, _++_}
+use Prim.Native.Nat.{ℕ, zero, suc, _+_, _*_, _≤_, _<_, suc-le-suc}
+use native.Mathlib.Nat.{mul-le-mul-right}
+use native.Mathlib.Omega.{arith}
+use lib.Dec.{leb}
+use lib.ListN.{length}
+use lib.Ieee.{Float}
+use lib.Ieee.Scale.{finite}
+use borrow.Author.Tests.{leb-true}
+use Rattle.numbers.specs.Answers.{Answer, value, refused, unless_refuse_else_}
+use Rattle.outcomes.specs.Asking.{Search as Run, ask, end, shown, rest}
+use Rattle.outcomes.proofs.Branches.{and-first, and-second}
+use Rattle.outcomes.proofs.Ends.{Ends, at-end, at-ask}
+use Rattle.rules.specs.declared.Options.{Options}
+use Rattle.rules.specs.declared.Setup.{Setup}
+use Rattle.rules.specs.Parameters.{paramsFinite, wolfeInRange, factorsInRange, boundsInRange, countsInRange, inRanges, epsilonK, levelOf, setupOf}
+use Rattle.rules.specs.Rules.{Report, search}
+use Rattle.rules.proofs.Bounds.{search-within}
+use Rattle.curves.specs.declared.Curve.{Curve}
+use Rattle.hagerzhang.specs.declared.Step.{Step}
+use Rattle.hagerzhang.proofs.Bridge.{starts-whole}
+use Rattle.lines.specs.Lines.{refusedLine}
+use Rattle.jobs.specs.declared.Job.{Job}
+use Rattle.jobs.specs.Reader.{jobOf}
+use Rattle.jobs.specs.Start.{hasCurve, curveOf, f0Of, s0Of, admittedOf, firstStep, beginsWith, beginsBy, beginOf}
+use Rattle.play.specs.declared.Played.{Played}
+use Rattle.play.specs.declared.Played.the-variants.{On, Over}
+use Rattle.play.specs.Telling.{Said, telling, textOf}
+use Rattle.play.specs.Playing.{saidIn, leftAfter}
+use Rattle.play.specs.Output.{searchText, jobText, outputOf}
+use Rattle.play.proofs.ByRules.{Stands, Matches, at-step, told-all}
+
+-- ---- a setup that a job is given has its counts in range
+record InRange (o : Options) : Type 0 where
+  limit : o .limit ≤ 10000
+  budget : o .budget ≤ 1000
+
+in-range : (o : Options) → inRanges o ≡ true → InRange o
+in-range o h =
+    let n = o .limit in
+    let m = o .budget in
+    let counts : (leb 1 m && leb m 1000 && (leb 1 n && leb n 10000)) ≡ true =
+    and-second (wolfeInRange (o .params) && factorsInRange (o .params) && boundsInRange (o .params)) (countsInRange o) h in
+    record {
+      limit = leb-true n 10000 (and-second (leb 1 n) (leb n 10000) (and-second (leb 1 m && leb m 1000) (leb 1 n && leb n 10000) counts));
+      budget = leb-true m 1000 (and-second (leb 1 m) (leb m 1000) (and-first (leb 1 m && leb m 1000) (leb 1 n && leb n 10000) counts));
+    }
+
+admitted-ranges : (s : Setup) (a k b d : Bool) (z : Setup) → (unless a refuse 2 else unless k && b refuse 3 else unless d refuse 4 else value z) ≡ value s → (b ≡ true) × (z ≡ s)
+admitted-ranges s true true true true z e = (refl, cc)
+admitted-ranges s true true true false z e = let o : _≡_ {A = ℕ} 0 1 = cc in absurd (omega arith)
+admitted-ranges s true true false d z e = let o : _≡_ {A = ℕ} 0 1 = cc in absurd (omega arith)
+admitted-ranges s true false b d z e = let o : _≡_ {A = ℕ} 0 1 = cc in absurd (omega arith)
+admitted-ranges s false k b d z e = let o : _≡_ {A = ℕ} 0 1 = cc in absurd (omega arith)
+
+module _ (j : Job) (s : Setup) (e : admittedOf j ≡ value s) where
+  ranges : InRange (s .options)
+  unfolding admittedOf
+  ranges =
+      let z = admitted-ranges s (paramsFinite (j .options .params)) (hasCurve j) (inRanges (j .options))
+      (finite (epsilonK (j .options) (f0Of j)) && finite (levelOf (j .options) (f0Of j))) (setupOf (j .options) (f0Of j) (s0Of j)) e in
+      subst (λ (q : Setup). InRange (q .options)) (z .1) (in-range (j .options) (z .0))
+
+  most : ℕ
+  most = 3 + s .options .limit * (3 + 3 * s .options .budget)
+
+  at-most : most ≤ 30030003
+  unfolding most
+  at-most =
+      let r = ranges in
+      let l = r .limit in
+      let b = r .budget in
+      let few : 3 + 3 * s .options .budget ≤ 3003 = omega arith in
+      let one : s .options .limit * (3 + 3 * s .options .budget) ≤ 10000 * (3 + 3 * s .options .budget) = mul-le-mul-right (3 + 3 * s .options .budget) l in
+      omega arith
+
+  pub limit-fits : s .options .limit < 4294967296
+  limit-fits = let l = ranges .limit in omega arith
+
+  stands-first : (c : Curve) → Stands s limit-fits c 0 most (firstStep s) (search s)
+  unfolding most
+  stands-first c = record {
+    same-setup = refl;
+    tells = unfold shown search in refl;
+    leaves = unfold rest search in starts-whole s;
+    counts = refl;
+    within = search-within s;
+    few = let m = at-most in omega arith;
+  }
+
+-- ---- a job that begins
+pub record Plays (s : List ℕ) (c : Curve) (t : Step) : Type 0 where
+  pub job : Job
+  pub setup : Setup
+  pub is-job : jobOf s ≡ value job
+  pub is-admitted : admittedOf job ≡ value setup
+  pub same-curve : curveOf job ≡ c
+  pub matches : Matches setup (limit-fits job setup is-admitted) c (On t) (telling c 0 (search setup))
+
+module _ (s : List ℕ) (c : Curve) (t : Step) where
+  with-setup : (j : Job) → jobOf s ≡ value j → (a : Answer Setup) → admittedOf j ≡ a → beginsWith (curveOf j) a ≡ value (c, t) → Plays s c t
+  with-setup j is (value q) e h =
+      let pair : _≡_ {A = Curve × Step} (curveOf j, firstStep q) (c, t) = cc in
+      record {
+        job = j;
+        setup = q;
+        is-job = is;
+        is-admitted = e;
+        same-curve = ap (λ (p : Curve × Step). p .0) pair;
+        matches = subst (λ (u : Step). Matches q (limit-fits j q e) c (On u) (telling c 0 (search q))) (ap (λ (p : Curve × Step). p .1) pair) (at-step (stands-first j q e c));
+      }
+  with-setup j is (refused n) e h = let o : _≡_ {A = ℕ} 0 1 = cc in absurd (omega arith)
+
+  with-job : (a : Answer Job) → jobOf s ≡ a → beginsBy a ≡ value (c, t) → Plays s c t
+  with-job (value j) e h = with-setup j e (admittedOf j) refl h
+  with-job (refused n) e h = let o : _≡_ {A = ℕ} 0 1 = cc in absurd (omega arith)
+
+  pub begun-plays : beginOf s ≡ value (c, t) → Plays s c t
+  begun-plays h = with-job (jobOf s) refl h
+
+  -- once its play is over, what was said is 01's text for the job
+  pub output-told : (p : Plays s c t) (n : ℕ) → leftAfter n c (On t) ≡ Over → textOf (saidIn n c (On t)) ≡ outputOf s
+  output-told p n h =
+      ap textOf (told-all (p .setup) (limit-fits (p .job) (p .setup) (p .is-admitted)) c n (On t) (telling c 0 (search (p .setup))) (p .matches) h)
+      ∙ sym (rw (p .is-job, p .is-admitted, p .same-curve))
+
+-- ---- one that does not
+refused-setup : (c : Curve) (a : Answer Setup) (n : ℕ) → beginsWith c a ≡ refused n → searchText c a ≡ refusedLine n
+refused-setup c (value s) n h = let o : _≡_ {A = ℕ} 0 1 = cc in absurd (omega arith)
+refused-setup c (refused m) n h = let e : m ≡ n = cc in ap refusedLine e
+
+refused-job : (a : Answer Job) (n : ℕ) → beginsBy a ≡ refused n → jobText a ≡ refusedLine n
+refused-job (value j) n h = refused-setup (curveOf j) (admittedOf j) n h
+refused-job (refused m) n h = let e : m ≡ n = cc in ap refusedLine e
+
+pub output-refused : (s : List ℕ) (n : ℕ) → beginOf s ≡ refused n → outputOf s ≡ refusedLine n
+output-refused s n h = refused-job (jobOf s) n h
+
+-- ---- a search that ends within m answers has at most m + 1 outcomes to tell
+tells-few : (c : Curve) (e m : ℕ) (r : Run Report) → Ends m r → length (telling c e r) ≤ suc m
+unfolding telling
+tells-few c e m (end o) at-end = omega arith
+tells-few c e (suc m) (ask k x then) (at-ask more) = suc-le-suc (tells-few c _ m _ (more _ _))
+
+pub few-lines : (s : List ℕ) (c : Curve) (t : Step) (p : Plays s c t) → length (telling c 0 (search (p .setup))) ≤ 30030004
+few-lines s c t p =
+    let h = tells-few c 0 (most (p .job) (p .setup) (p .is-admitted)) (search (p .setup)) (unfold most in search-within (p .setup)) in
+    let m = at-most (p .job) (p .setup) (p .is-admitted) in
+    omega arith
