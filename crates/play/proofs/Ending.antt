@@ -1,0 +1,73 @@
+-- A play ends: each turn of it leaves less to tell (`less-to-tell`), and leaves a play that ends likewise (`plays-on`). This is what a loop over a play rests on. Assumes nothing.
+use mathlib.Core.Path.{_≡_, refl, sym, ap, _∙_}
+use mathlib.Core.List.{List, [], _∷_, _++_}
+use Prim.Native.Nat.{ℕ, zero, suc, _+_, _≤_, _<_}
+use native.Mathlib.Omega.{arith}
+use lib.ListN.{length, length-append}
+use Rattle.numbers.specs.Answers.{value}
+use Rattle.outcomes.specs.Asking.{Search as Run, ask, end, rest}
+use Rattle.rules.specs.declared.Setup.{Setup}
+use Rattle.rules.specs.Rules.{Report, search}
+use Rattle.curves.specs.declared.Curve.{Curve}
+use Rattle.hagerzhang.specs.declared.Step.{Step}
+use Rattle.hagerzhang.specs.Meaning.{meant}
+use Rattle.jobs.specs.Start.{beginOf}
+use Rattle.play.specs.declared.Played.{Played}
+use Rattle.play.specs.declared.Played.the-variants.{On, Over}
+use Rattle.play.specs.Telling.{Said, telling}
+use Rattle.play.specs.Playing.{saidOf, nextOf, saidIn, leftAfter}
+use Rattle.play.proofs.ByRules.{Stands, Matches, at-over, at-step, plays}
+use Rattle.play.proofs.Output.{begun-plays, limit-fits}
+
+-- how many outcomes there are to tell
+pub toTell : Curve → Played → ℕ
+toTell c Over = 0
+toTell c (On t) = length (telling c 0 (meant (t .search)))
+
+-- a play that the rules match
+pub record Playable (c : Curve) (p : Played) : Type 0 where
+  pub setup : Setup
+  pub fits : setup .options .limit < 4294967296
+  pub outcomes : List Said
+  pub matches : Matches setup fits c p outcomes
+
+-- the count does not depend on the evaluations before
+same-count : (c : Curve) (e d : ℕ) (r : Run Report) → length (telling c e r) ≡ length (telling c d r)
+unfolding telling
+same-count c e d (end o) = refl
+same-count c e d (ask k x then) = ap suc (same-count c _ _ (then _ _))
+
+rest-count : (c : Curve) (e : ℕ) (r : Run Report) → length (telling c 0 (rest r)) ≡ length (telling c e r)
+rest-count c e (end o) = unfold rest telling in refl
+rest-count c e (ask k x then) = unfold rest in same-count c 0 e (ask k x then)
+
+counted : (s : Setup) (fits : s .options .limit < 4294967296) (c : Curve) (p : Played) (l : List Said) → Matches s fits c p l → toTell c p ≡ length l
+unfolding toTell
+counted s fits c Over [] at-over = refl
+counted s fits c (On t) l (at-step {e} {r = r} at) = ap (λ (q : Run Report). length (telling c 0 q)) (at .leaves) ∙ rest-count c e r
+
+says-one : (c : Curve) (n : ℕ) (t : Step) → 0 < n → 0 < length (saidIn n c (On t))
+unfolding saidIn
+says-one c zero t h = absurd (omega arith)
+says-one c (suc n) t h = omega arith
+
+module _ (c : Curve) (n : ℕ) (p : Played) (m : Playable c p) where
+  pub plays-on : Playable c (leftAfter n c p)
+  plays-on =
+      let g = plays (m .setup) (m .fits) c n p (m .outcomes) (m .matches) in
+      record { setup = m .setup; fits = m .fits; outcomes = g .others; matches = g .matches }
+
+  pub less-to-tell : (t : Step) → 0 < n → p ≡ On t → toTell c (leftAfter n c p) < toTell c p
+  less-to-tell t h e =
+      let g = plays (m .setup) (m .fits) c n p (m .outcomes) (m .matches) in
+      let before = counted (m .setup) (m .fits) c p (m .outcomes) (m .matches) in
+      let after = counted (m .setup) (m .fits) c (leftAfter n c p) (g .others) (g .matches) in
+      let split : length (m .outcomes) ≡ length (saidIn n c p) + length (g .others) = ap length (g .split) ∙ length-append (saidIn n c p) (g .others) in
+      let some : 0 < length (saidIn n c p) = rw e (says-one c n t h) in
+      omega arith
+
+-- what a job begins is such a play
+pub begun-playable : (s : List ℕ) (c : Curve) (t : Step) → beginOf s ≡ value (c, t) → Playable c (On t)
+begun-playable s c t h =
+    let p = begun-plays s c t h in
+    record { setup = p .setup; fits = limit-fits (p .job) (p .setup) (p .is-admitted); outcomes = telling c 0 (search (p .setup)); matches = p .matches }
