@@ -3,37 +3,34 @@
 -- Assumes nothing.
 use mathlib.Core.Path.{_≡_, refl, sym, ap, _∙_, subst}
 use mathlib.Core.Bool.{Bool, true, false, cond, not, _&&_}
-use mathlib.Core.List.{List, [], _∷_}
-use Prim.Native.Nat.{ℕ, zero, suc, _+_, _*_, _≤_, _<_}
-use native.Mathlib.Nat.{mul-le-mul-right, mul-le-mul-left}
+use mathlib.Core.List.{List, _∷_}
+use Prim.Native.Nat.{ℕ, _+_, _*_, _≤_, _<_}
+use native.Mathlib.Nat.{mul-le-mul-right}
 use native.Mathlib.Omega.{arith}
-use lib.Dec.{ltb, leb}
+use lib.Dec.{leb}
 use lib.ListN.{length}
 use lib.Ieee.{Float}
 use lib.Ieee.Scale.{finite}
-use borrow.Author.Tests.{leb-true, lt-ltb}
+use borrow.Author.Tests.{leb-true}
 use Rattle.outcomes.specs.Outcomes.{refusal, Told, told}
 use Rattle.outcomes.specs.Asking.{Search as Run, over, Reply, respond, shown, reported, isOver, rest, outcomes, after, accepted, reached, played}
 use Rattle.outcomes.specs.Counters.{counted}
 use Rattle.outcomes.proofs.Ends.{ends-over, ends-accepted, non-finite-last as ends-non-finite-last, non-finite-once as ends-non-finite-once}
 use Rattle.outcomes.proofs.Branches.{either, by-test, and-first, and-second}
 use Rattle.outcomes.proofs.Machines as machines
-use Rattle.outcomes.specs.declared.Evaluations.{Evaluations}
 use Rattle.outcomes.specs.declared.Refusal.the-variants.{SuppliedNotFinite, OutOfRange, ResultNotFinite}
 use Rattle.rules.specs.declared.Options.{Options}
 use Rattle.rules.specs.declared.Setup.{Setup}
-use Rattle.hagerzhang.specs.declared.Kept.{Kept}
-use Rattle.hagerzhang.specs.declared.Waiting.{Waiting}
 use Rattle.hagerzhang.specs.declared.Stage.{Stage}
 use Rattle.hagerzhang.specs.declared.Stage.the-variants.{Open, Over}
 use Rattle.hagerzhang.specs.declared.Search.{Search}
 use Rattle.hagerzhang.specs.declared.Step.{Step}
-use Rattle.hagerzhang.specs.declared.Started.{Started}
 use Rattle.hagerzhang.specs.declared.Started.the-variants.{Began, NoSearch}
 use Rattle.rules.specs.Parameters.{suppliedFinite, wolfeInRange, factorsInRange, boundsInRange, countsInRange, inRanges, epsilonK, levelOf, setupOf}
 use Rattle.rules.specs.Rules.{answerFinite, Report, search}
 use Rattle.hagerzhang.specs.Machine.{takenOf, answerBy, answerOf, fresh, startOf}
-use Rattle.hagerzhang.specs.Meaning.{stageReport, report, meaning, meant, Follows}
+use Rattle.hagerzhang.specs.Meaning.{stageReport, report, meaning, meant}
+use Rattle.hagerzhang.specs.Refusals.{isOver as isOverStage}
 use Rattle.hagerzhang.proofs.Bridge.{follows, starts, starts-whole}
 use Rattle.rules.proofs.Bounds.{search-within}
 
@@ -124,12 +121,8 @@ unfolding meaning reported stageReport
 reports s (Open waiting) = refl
 reports s (Over kept) = refl
 
-pub isOverStage : Stage → Bool
-isOverStage (Open waiting) = false
-isOverStage (Over kept) = true
-
 over-is : (s : Setup) (stage : Stage) → isOver (meaning s stage) ≡ isOverStage stage
-unfolding meaning isOver isOverStage
+unfolding meaning isOver
 over-is s (Open waiting) = refl
 over-is s (Over kept) = refl
 
