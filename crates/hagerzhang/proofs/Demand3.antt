@@ -20,7 +20,7 @@ use Rattle.rules.proofs.Along.{noted, under-way, finished-by, Moves}
 use Rattle.rules.proofs.Demand3 as rules
 use Rattle.hagerzhang.proofs.Demand2.{Accepted, FreshSearch, reachedBy, report-is-rules}
 
-ends-ordered : (s : Setup) → Accepted s → s .options .params .min <ᶠ s .options .params .max ≡ true
+pub ends-ordered : (s : Setup) → Accepted s → s .options .params .min <ᶠ s .options .params .max ≡ true
 ends-ordered s a =
     let p = s .options .params in
     let w = wolfeInRange p in
