@@ -1,7 +1,7 @@
 -- What is proved of a backtracking search that `start` accepts, for every list of answers: its outcomes and its count of iterations are those of 01's
 -- rules; it is over after 1 + N answers; its evaluations are the finite answers accepted. Assumes nothing.
 use mathlib.Core.Path.{_≡_, refl, sym, ap, _∙_, subst}
-use mathlib.Core.Bool.{Bool, true, false, cond, _&&_, true≢false, false≢true}
+use mathlib.Core.Bool.{Bool, true, false, cond, not, _&&_, false≢true}
 use mathlib.Core.List.{List, [], _∷_}
 use Prim.Native.Nat.{ℕ, zero, suc, _+_, _-_, _≤_, _<_}
 use native.Mathlib.Omega.{arith}
@@ -11,10 +11,10 @@ use lib.ListN.{length}
 use lib.Ieee.{Float}
 use lib.Ieee.Scale.{finite}
 use borrow.Author.Tests.{leb-true, lt-ltb}
-use Rattle.outcomes.specs.Outcomes.{Told, told}
-use Rattle.outcomes.specs.Asking.{Search, end, Over as Ended, Reply, respond, shown, reported, isOver, rest, outcomes, after, accepted, reached, played}
+use Rattle.outcomes.specs.Outcomes.{refusal, Told, told}
+use Rattle.outcomes.specs.Asking.{Search, over, Reply, respond, shown, reported, isOver, rest, outcomes, after, accepted, reached, played}
 use Rattle.outcomes.specs.Counters.{counted, evaluations, iterations}
-use Rattle.outcomes.proofs.Ends.{Ends, at-end, at-ask, ends-if, ends-over, ends-accepted}
+use Rattle.outcomes.proofs.Ends.{Ends, at-end, ends-if, question-ends, ends-over, ends-accepted, non-finite-last as ends-non-finite-last, non-finite-once as ends-non-finite-once}
 use Rattle.outcomes.proofs.Branches.{either, by-test, and-second}
 use Rattle.outcomes.proofs.Machines as machines
 use Rattle.outcomes.specs.declared.Evaluations.{Evaluations}
@@ -158,16 +158,13 @@ over-is s i First e = absurd (false≢true (sym (asked-open s (s .limit - i) i i
 over-is s i (Later t) e = absurd (false≢true (sym (asked-open s (s .limit - counted i) i (counted i) t) ∙ e))
 over-is s i Over e = refl
 
-trials-end : (s : Setup) (k before now : ℕ) (t : Float) → Ends (suc k) (trials s k before now t)
+trials-end : (s : Setup) (k before now : ℕ) (t : Float) → Ends (answerFinite (s .condition)) (suc k) (trials s k before now t)
 unfolding trials
-trials-end s zero before now t =
-    at-ask (λ f g. ends-if (answerFinite (s .condition) f g) (ends-if (holdsOf (s .condition) (s .f0) (s .s0) t f g) at-end at-end) at-end)
+trials-end s zero before now t = question-ends before t _ (λ f g. ends-if (holdsOf (s .condition) (s .f0) (s .s0) t f g) at-end at-end)
 trials-end s (suc k) before now t =
-    at-ask (λ f g.
-    ends-if (answerFinite (s .condition) f g)
-    (ends-if (holdsOf (s .condition) (s .f0) (s .s0) t f g) at-end
+    question-ends before t _ (λ f g.
+    ends-if (holdsOf (s .condition) (s .f0) (s .s0) t f g) at-end
     (ends-if (finite (t ⊗ s .rho)) (trials-end s k now (now + 1) (t ⊗ s .rho)) at-end))
-    at-end)
 
 -- ---- the theorems: for a setup that 01 accepts, the search that `start` gives, and every list of answers
 
@@ -211,6 +208,14 @@ module _ (s : Setup) (b : Backtracking) (new : FreshSearch s b) (ys : List Reply
       (machines.reaches meant next says Fit fit-next leaves tells isOver machines.over-rests b (new .same-setup) ys
       ∙ ap (λ (r : Search ℕ). isOver (after r ys)) (new .stands-for)
       ∙ ends-over (trials-end s (s .limit) 0 0 (s .alpha)) ys (omega arith))
+
+  -- of the answers given while the search asks at most one is not finite, and it is the last: 2, with what was reported
+  pub non-finite-once : accepted (λ f g. not (answerFinite (s .condition) f g)) (search s) ys ≤ 1
+  non-finite-once = ends-non-finite-once (trials-end s (s .limit) 0 0 (s .alpha)) ys
+
+  pub non-finite-last : (f g : Float) → isOver (after (search s) ys) ≡ false → answerFinite (s .condition) f g ≡ false
+      → respond (after (search s) ys) f g ≡ over (reported (after (search s) ys)) (refusal 2)
+  non-finite-last = ends-non-finite-last (trials-end s (s .limit) 0 0 (s .alpha)) ys
 
   -- demand 3: the reported evaluations equal the finite answers accepted, which are 1 + N at most
   pub evaluations-bounded : accepted (answerFinite (s .condition)) (search s) ys ≤ 1 + s .limit
