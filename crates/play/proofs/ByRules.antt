@@ -65,7 +65,7 @@ module _ (s : Setup) (fits : s .options .limit < 4294967296) (c : Curve) where
     pub tells : told (t .outcome) ≡ shown r
     pub leaves : meant (t .search) ≡ rest r
     pub counts : t .search .evaluations .0 ≡ e
-    pub within : Ends m r
+    pub within : Ends answerFinite m r
     pub few : e + m < 4294967295
 
   -- what a play has still to tell
@@ -83,7 +83,7 @@ module _ (s : Setup) (fits : s .options .limit < 4294967296) (c : Curve) where
   reported-by b r e = ap iterationsIn (reports (b .setup) (b .stage) ∙ ap reported e)
 
   module _ (e m : ℕ) (t : Step) where
-    module _ (k : Report) (x : Float) (then : Float → Float → Run Report) (at : Stands e (suc m) t (ask k x then)) (more : (f g : Float) → Ends m (then f g)) where
+    module _ (k : Report) (x : Float) (then : Float → Float → Run Report) (at : Stands e (suc m) t (ask k x then)) (more : (f g : Float) → Ends answerFinite m (then f g)) where
       abbrev f : Float
       f = valueOf c x
 
@@ -172,9 +172,9 @@ module _ (s : Setup) (fits : s .options .limit < 4294967296) (c : Curve) where
         matches = subst (λ (p : Played). Matches p []) (sym (stops-at (t .outcome) is-told)) at-over;
       }
 
-  turn : (e m : ℕ) (t : Step) (r : Run Report) → Ends m r → Stands e m t r → Turn t (telling c e r)
+  turn : (e m : ℕ) (t : Step) (r : Run Report) → Ends answerFinite m r → Stands e m t r → Turn t (telling c e r)
   turn e m t (end o) w at = end-turn e m t o at
-  turn e (suc m) t (ask k x then) (at-ask more) at = asks-turn e m t k x then at more
+  turn e (suc m) t (ask k x then) (at-ask only more) at = asks-turn e m t k x then at more
 
   turn-of : (t : Step) (l : List Said) → Matches (On t) l → Turn t l
   turn-of t l (at-step {e} {m} {r = r} at) = turn e m t r (at .within) at

@@ -18,7 +18,7 @@ use Rattle.outcomes.proofs.Ends.{Ends, at-end, at-ask}
 use Rattle.rules.specs.declared.Options.{Options}
 use Rattle.rules.specs.declared.Setup.{Setup}
 use Rattle.rules.specs.Parameters.{paramsFinite, wolfeInRange, factorsInRange, boundsInRange, countsInRange, inRanges, epsilonK, levelOf, setupOf}
-use Rattle.rules.specs.Rules.{Report, search}
+use Rattle.rules.specs.Rules.{answerFinite, Report, search}
 use Rattle.rules.proofs.Bounds.{search-within}
 use Rattle.curves.specs.declared.Curve.{Curve}
 use Rattle.hagerzhang.specs.declared.Step.{Step}
@@ -141,10 +141,10 @@ pub output-refused : (s : List ℕ) (n : ℕ) → beginOf s ≡ refused n → ou
 output-refused s n h = refused-job (jobOf s) n h
 
 -- ---- a search that ends within m answers has at most m + 1 outcomes to tell
-tells-few : (c : Curve) (e m : ℕ) (r : Run Report) → Ends m r → length (telling c e r) ≤ suc m
+tells-few : (c : Curve) (e m : ℕ) (r : Run Report) → Ends answerFinite m r → length (telling c e r) ≤ suc m
 unfolding telling
 tells-few c e m (end o) at-end = omega arith
-tells-few c e (suc m) (ask k x then) (at-ask more) = suc-le-suc (tells-few c _ m _ (more _ _))
+tells-few c e (suc m) (ask k x then) (at-ask only more) = suc-le-suc (tells-few c _ m _ (more _ _))
 
 pub few-lines : (s : List ℕ) (c : Curve) (t : Step) (p : Plays s c t) → length (telling c 0 (search (p .setup))) ≤ 30030004
 few-lines s c t p =
