@@ -51,17 +51,21 @@ unfolding saidIn
 says-one c zero t h = absurd (omega arith)
 says-one c (suc n) t h = omega arith
 
-module _ (c : Curve) (n : ℕ) (p : Played) (m : Playable c p) where
-  pub plays-on : Playable c (leftAfter n c p)
+-- from p, which goes on with t, n turns lead to q
+module _ (c : Curve) (n : ℕ) (p q : Played) (t : Step) (m : Playable c p) (e : p ≡ On t) (f : q ≡ leftAfter n c (On t)) where
+  leads : q ≡ leftAfter n c p
+  leads = f ∙ ap (leftAfter n c) (sym e)
+
+  pub plays-on : Playable c q
   plays-on =
       let g = plays (m .setup) (m .fits) c n p (m .outcomes) (m .matches) in
-      record { setup = m .setup; fits = m .fits; outcomes = g .others; matches = g .matches }
+      rw leads (record { setup = m .setup; fits = m .fits; outcomes = g .others; matches = g .matches })
 
-  pub less-to-tell : (t : Step) → 0 < n → p ≡ On t → toTell c (leftAfter n c p) < toTell c p
-  less-to-tell t h e =
+  pub less-to-tell : 0 < n → toTell c q < toTell c p
+  less-to-tell h =
       let g = plays (m .setup) (m .fits) c n p (m .outcomes) (m .matches) in
       let before = counted (m .setup) (m .fits) c p (m .outcomes) (m .matches) in
-      let after = counted (m .setup) (m .fits) c (leftAfter n c p) (g .others) (g .matches) in
+      let after : toTell c q ≡ length (g .others) = ap (toTell c) leads ∙ counted (m .setup) (m .fits) c (leftAfter n c p) (g .others) (g .matches) in
       let split : length (m .outcomes) ≡ length (saidIn n c p) + length (g .others) = ap length (g .split) ∙ length-append (saidIn n c p) (g .others) in
       let some : 0 < length (saidIn n c p) = rw e (says-one c n t h) in
       omega arith
