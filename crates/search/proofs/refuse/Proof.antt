@@ -1,6 +1,6 @@
 -- `search::refuse` meets its contract. Assumes nothing.
 use borrow.Author.Needs.{needs}
-use Rattle.search.proofs.Pages.{ends-within}
+use Rattle.play.proofs.Pages.{ends-within}
 use Rattle.search.proofs.refuse.Statement.{statement}
 use Rattle.search.proofs.refuse.Tie as tie
 

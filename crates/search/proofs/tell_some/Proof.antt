@@ -1,6 +1,6 @@
 -- `search::tell_some` meets its contract. Assumes nothing.
 use borrow.Author.Needs.{needs}
-use Rattle.search.proofs.Pages.{ends-within}
+use Rattle.play.proofs.Pages.{ends-within}
 use Rattle.search.proofs.tell_some.Statement.{statement}
 use Rattle.search.proofs.tell_some.Tie as tie
 

@@ -1,0 +1,186 @@
+#!/usr/bin/env python3
+"""Makes the jobs that crates/search_jobs runs, with what must be written for each.
+
+usage: make_search_jobs.py FILE [FOLDER]
+
+FILE is the list that the program reads: for each job two bytes with its length, two bytes with the length of its output, the job
+and the output. FOLDER gets the same as files, NAME.job and NAME.out, for whoever runs the program `search` on them.
+
+What must be written is worked out here from the rules alone: the job is taken apart by a reader of its own, field by field,
+and the search is the generator of make_hagerzhang_vectors.py on the floats of exact.py. Nothing of the program under test is used.
+"""
+import os
+import struct
+import sys
+
+from exact import INF, MAX, NAN, SIGN, TINY, is_finite, write_list
+from make_backtracking_vectors import curve
+from make_hagerzhang_vectors import APPROXIMATE, DEFAULTS, F, LIMIT, REFUSED, WOLFE, Search, refusal
+
+CURVE, BOUNDS, START, EPSILON, BUDGET, ITERATIONS = 1, 2, 3, 4, 5, 6
+SIZES = {CURVE: 1, BOUNDS: 16, START: 8, EPSILON: 8, BUDGET: 2, ITERATIONS: 2}
+WORDS = {WOLFE: "STOP wolfe", APPROXIMATE: "STOP approximate", LIMIT: "LIMIT"}
+
+
+def fields_of(job):
+    """The fields by their tags, or None where the job is malformed."""
+    fields, at, last = {}, 0, 0
+    while at < len(job):
+        if len(job) - at < 3:
+            return None
+        tag, size = struct.unpack(">BH", job[at:at + 3])
+        body = job[at + 3:at + 3 + size]
+        if tag <= last or SIZES.get(tag) != size or len(body) != size:
+            return None
+        fields[tag] = body
+        last, at = tag, at + 3 + size
+    return fields if CURVE in fields else None
+
+
+def lines_of(job):
+    fields = fields_of(job)
+    if fields is None:
+        return ["REFUSED 9"]
+    floats = lambda tag, default: list(struct.unpack(f">{SIZES[tag] // 8}Q", fields[tag])) if tag in fields else default
+    number = lambda tag: int.from_bytes(fields[tag], "big") if tag in fields else 100
+    low, high = floats(BOUNDS, DEFAULTS[6:8])
+    params = DEFAULTS[:2] + floats(EPSILON, DEFAULTS[2:3]) + DEFAULTS[3:6] + [low, high] + floats(START, DEFAULTS[8:])
+    k = fields[CURVE][0]
+    if not all(map(is_finite, params)):
+        return ["REFUSED 2"]
+    if not 1 <= k <= 8:
+        return ["REFUSED 3"]
+    f0, s0 = curve(k - 1, F(0))
+    n = refusal(params, f0, s0, number(BUDGET), number(ITERATIONS))
+    if n:
+        return [f"REFUSED {n}"]
+    return list(told(Search(params, f0, s0, number(BUDGET), number(ITERATIONS)), k))
+
+
+def told(search, k):
+    run = search.run()
+    x = next(run)
+    while search.ended is None:
+        yield f"ASK {x:016X}"
+        try:
+            x = run.send(curve(k - 1, x))
+        except StopIteration:
+            break
+    kind, what = search.ended
+    if kind == REFUSED:
+        yield f"REFUSED {what}"
+    else:
+        yield f"{WORDS[kind]} {what:016X} evaluations {search.evaluations} iterations {search.iterations}"
+
+
+def field(tag, body, size=None):
+    return struct.pack(">BH", tag, len(body) if size is None else size) + body
+
+
+def job(k, low=None, high=None, first=None, epsilon=None, b=None, n=None):
+    """A job with the fields that are given; numbers are patterns."""
+    out = field(CURVE, bytes([k]))
+    if low is not None:
+        out += field(BOUNDS, struct.pack(">QQ", low, high))
+    for tag, x in ((START, first), (EPSILON, epsilon)):
+        if x is not None:
+            out += field(tag, struct.pack(">Q", x))
+    for tag, x in ((BUDGET, b), (ITERATIONS, n)):
+        if x is not None:
+            out += field(tag, struct.pack(">H", x))
+    return out
+
+
+def stored():
+    zero, one, four = F(0), F(1), F(4)
+    sample = job(1, zero, four)
+    whole = job(1, zero, four, F(0.5), F(1e-3), 7, 9)
+    jobs = {
+        "wolfe_sample": sample,
+        "wolfe_every_field": whole,
+        "approximate": job(6, F(10), F(100), F(-1), F(2)),
+        "limit": job(8, zero, four, n=1),
+        "limit_largest_counts": job(8, zero, four, b=1000, n=10000),
+        # 2: an answer, and each number of a job
+        "2_answer": job(5, zero, F(1e80)),
+        "2_low_nan": job(1, NAN, four),
+        "2_high_infinite": job(1, zero, INF),
+        "2_start_nan": job(1, first=0x7FF0000000000001),
+        "2_epsilon_infinite": job(1, epsilon=SIGN | INF),
+        "2_before_3_curve": job(9, NAN, four),
+        "2_before_3_counts": job(1, first=NAN, b=0, n=0),
+        # 3
+        "3_curve_0": job(0),
+        "3_curve_9": job(9),
+        "3_curve_255": job(255, zero, four),
+        "3_bounds_equal": job(1, one, one),
+        "3_bounds_zeros": job(1, SIGN, zero),
+        "3_bound_below_zero": job(1, SIGN | TINY, one),
+        "3_epsilon_below_zero": job(1, epsilon=SIGN | TINY),
+        "3_budget_0": job(1, b=0),
+        "3_budget_1001": job(1, b=1001),
+        "3_limit_0": job(1, n=0),
+        "3_limit_10001": job(1, n=10001),
+        "3_before_4": job(2, epsilon=F(1e308), n=0),
+        # 4 to 7
+        "4_level": job(2, epsilon=F(1e308)),
+        "4_epsilon_k": job(2, epsilon=MAX),
+        "5": job(3),
+        "6": job(8, F(0.6), F(0.9), b=1),
+        "7": job(8, F(0.6), F(0.9)),
+        # accepted at the ends of the ranges
+        "low_minus_zero": job(7, SIGN, four),
+        "epsilon_minus_zero": job(6, zero, four, epsilon=SIGN),
+        "start_outside": job(7, F(0.5), four, F(-3)),
+        # 9
+        "9_empty": b"",
+        "9_tag_alone": b"\1",
+        "9_half_a_length": b"\1\0",
+        "9_no_body": b"\1\0\1",
+        "9_curve_of_no_bytes": field(CURVE, b"") + sample[4:],
+        "9_curve_of_two_bytes": field(CURVE, b"\0\1") + sample[4:],
+        "9_no_curve": sample[4:],
+        "9_curve_twice": sample[:4] + sample,
+        "9_curve_last": sample[4:] + sample[:4],
+        "9_bounds_twice": sample + sample[4:],
+        "9_bounds_of_15": sample[:4] + field(BOUNDS, bytes(15)),
+        "9_bounds_of_17": sample[:4] + field(BOUNDS, bytes(17)),
+        "9_bounds_cut": sample[:-1],
+        "9_bounds_length_256_more": sample[:4] + field(BOUNDS, sample[7:], 272),
+        "9_start_of_7": sample + field(START, bytes(7)),
+        "9_epsilon_before_start": sample[:4] + field(EPSILON, bytes(8)) + field(START, bytes(8)),
+        "9_budget_of_1": sample + field(BUDGET, b"\1"),
+        "9_limit_of_3": sample + field(ITERATIONS, b"\0\0\1"),
+        "9_tag_0": field(0, b"\1") + sample,
+        "9_tag_7": sample + field(7, b"\0\1"),
+        "9_tag_255": sample + field(255, b""),
+        "9_byte_behind": sample + b"\0",
+        "9_longest_and_one": whole + b"\0",
+        "9_before_2": job(1, NAN, NAN) + b"\6",
+    }
+    for k in range(1, 9):
+        jobs[f"curve_{k}_alone"] = job(k)
+        jobs[f"curve_{k}_within"] = job(k, F(0.01), F(64), F(0.7))
+    assert len(whole) == 55
+    return jobs
+
+
+def main(path, folder=None):
+    cases, seen = [], set()
+    for name, bytes_ in stored().items():
+        lines = lines_of(bytes_)
+        seen.add(" ".join(lines[-1].split()[:2]) if lines[-1][0] in "SR" else "LIMIT")
+        text = "".join(line + "\n" for line in lines).encode()
+        cases.append(struct.pack(">HH", len(bytes_), len(text)) + bytes_ + text)
+        if folder:
+            for end, what in ((".job", bytes_), (".out", text)):
+                with open(os.path.join(folder, name + end), "wb") as f:
+                    f.write(what)
+    assert seen == {"STOP wolfe", "STOP approximate", "LIMIT"} | {f"REFUSED {n}" for n in (2, 3, 4, 5, 6, 7, 9)}, seen
+    write_list(path, cases)
+
+
+if __name__ == "__main__":
+    if len(sys.argv) not in (2, 3):
+        sys.exit(__doc__)
+    main(*sys.argv[1:])
