@@ -2,7 +2,7 @@
 -- turns as there is to tell (`over-in-time`). Assumes nothing.
 use mathlib.Core.Path.{_≡_, refl, sym, ap, _∙_, subst}
 use mathlib.Core.Bool.{Bool, true, false, cond}
-use mathlib.Core.List.{List, [], _∷_, _++_, append-nil}
+use mathlib.Core.List.{List, [], _∷_, _++_, append-nil, append-assoc}
 use Prim.Native.Nat.{ℕ, zero, suc, _+_, _-_, _≤_, _<_}
 use native.Mathlib.Nat.{not-suc-le-zero, le-of-suc-le-suc}
 use native.Mathlib.Omega.{arith}
@@ -31,8 +31,8 @@ use Rattle.hagerzhang.specs.Meaning.{stageReport, report, meaning, meant}
 use Rattle.hagerzhang.proofs.Bridge.{follows}
 use Rattle.play.specs.declared.Played.{Played}
 use Rattle.play.specs.declared.Played.the-variants.{On, Over}
-use Rattle.play.specs.Telling.{Said, iterationsIn, telling}
-use Rattle.play.specs.Playing.{saidOf, answeredBy, nextOf, saidIn, leftAfter}
+use Rattle.play.specs.Telling.{Said, iterationsIn, telling, saidLine, textOf}
+use Rattle.play.specs.Playing.{saidOf, answeredBy, nextOf, saidIn, leftAfter, chunks, leftAfterChunks}
 
 -- ---- what an answer leaves as it was, what it counts, and what a state reports
 setup-kept : (b : Search) (f g : Float) (stage : Stage) → answerBy b f g stage .search .setup ≡ b .setup
@@ -57,6 +57,16 @@ reports : (s : Setup) (stage : Stage) → stageReport stage ≡ reported (meanin
 unfolding meaning reported stageReport
 reports s (Open waiting) = refl
 reports s (OverStage kept) = refl
+
+-- ---- texts one after the other
+no-text : textOf [] ≡ []
+unfolding textOf
+no-text = refl
+
+text-append : (k l : List Said) → textOf (k ++ l) ≡ textOf k ++ textOf l
+unfolding textOf
+text-append [] l = refl
+text-append (s ∷ k) l = ap (λ (t : List ℕ). saidLine s ++ t) (text-append k l) ∙ sym (append-assoc (saidLine s) (textOf k) (textOf l))
 
 -- ---- a step stands where a run of the rules stands that has made e evaluations and ends within m answers
 module _ (s : Setup) (fits : s .options .limit < 4294967296) (c : Curve) where
@@ -218,3 +228,12 @@ module _ (s : Setup) (fits : s .options .limit < 4294967296) (c : Curve) where
       let z = turn-of t l m in
       let k : length l ≡ suc (length (z .others)) = ap length (z .first) in
       over-in-time n (nextOf c t) (z .others) (z .matches) (omega arith)
+
+  -- chunk after chunk: once the play is over, they are the whole text
+  pub chunks-told : (n k : ℕ) (p : Played) (l : List Said) → Matches p l → leftAfterChunks c n k p ≡ Over → chunks c n k p ≡ textOf l
+  unfolding chunks leftAfterChunks
+  chunks-told n zero p l h e = sym (ap textOf (nothing-left p l h e) ∙ no-text)
+  chunks-told n (suc k) p l h e =
+      let g = plays n p l h in
+      ap (λ (t : List ℕ). textOf (saidIn n c p) ++ t) (chunks-told n k (leftAfter n c p) (g .others) (g .matches) e)
+      ∙ sym (ap textOf (g .split) ∙ text-append (saidIn n c p) (g .others))

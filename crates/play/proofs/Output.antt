@@ -1,4 +1,4 @@
--- What is written for a job is 01's text for it: a job that begins is played by the rules (`begun-plays`), its lines are the whole text once the play is over (`output-told`),
+-- What is written for a job is 01's text for it: a job that begins is played by the rules (`begun-plays`), its lines, chunk after chunk, are the whole text once the play is over (`output-told`),
 -- there are at most 30,030,004 of them (`few-lines`), and a job that does not begin has its refusal's line (`output-refused`). Assumes nothing.
 use mathlib.Core.Path.{_≡_, refl, sym, ap, _∙_, subst}
 use mathlib.Core.Bool.{Bool, true, false, cond, _&&_}
@@ -30,9 +30,9 @@ use Rattle.jobs.specs.Start.{hasCurve, curveOf, f0Of, s0Of, admittedOf, firstSt
 use Rattle.play.specs.declared.Played.{Played}
 use Rattle.play.specs.declared.Played.the-variants.{On, Over}
 use Rattle.play.specs.Telling.{Said, telling, textOf}
-use Rattle.play.specs.Playing.{saidIn, leftAfter}
+use Rattle.play.specs.Playing.{chunks, leftAfterChunks}
 use Rattle.play.specs.Output.{searchText, jobText, outputOf}
-use Rattle.play.proofs.ByRules.{Stands, Matches, at-step, told-all}
+use Rattle.play.proofs.ByRules.{Stands, Matches, at-step, chunks-told}
 
 -- ---- a setup that a job is given has its counts in range
 record InRange (o : Options) : Type 0 where
@@ -122,10 +122,10 @@ module _ (s : List ℕ) (c : Curve) (t : Step) where
   pub begun-plays : beginOf s ≡ value (c, t) → Plays s c t
   begun-plays h = with-job (jobOf s) refl h
 
-  -- once its play is over, what was said is 01's text for the job
-  pub output-told : (p : Plays s c t) (n : ℕ) → leftAfter n c (On t) ≡ Over → textOf (saidIn n c (On t)) ≡ outputOf s
-  output-told p n h =
-      ap textOf (told-all (p .setup) (limit-fits (p .job) (p .setup) (p .is-admitted)) c n (On t) (telling c 0 (search (p .setup))) (p .matches) h)
+  -- once its play is over, what was written, chunk after chunk, is 01's text for the job
+  pub output-told : Plays s c t → (n k : ℕ) → leftAfterChunks c n k (On t) ≡ Over → chunks c n k (On t) ≡ outputOf s
+  output-told p n k h =
+      chunks-told (p .setup) (limit-fits (p .job) (p .setup) (p .is-admitted)) c n k (On t) (telling c 0 (search (p .setup))) (p .matches) h
       ∙ sym (rw (p .is-job, p .is-admitted, p .same-curve))
 
 -- ---- one that does not

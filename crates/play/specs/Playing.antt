@@ -1,12 +1,9 @@
--- How a search is played, turn by turn: the bookkeeping that the contracts cite. That this tells what 01's rules tell is proved in proofs/Rules.antt.
+-- How a search is played, turn by turn: the bookkeeping that the contracts cite. That this tells what 01's rules tell is proved in proofs/ByRules.antt.
 use Prim.Native.Nat.{ℕ, zero, suc}
-use mathlib.Core.List.{List, [], _∷_}
-use lib.Ieee.{Float}
+use mathlib.Core.List.{List, [], _∷_, _++_}
 use Rattle.outcomes.specs.Outcomes.{told}
-use Rattle.outcomes.specs.Counters.{iterations}
 use Rattle.outcomes.specs.declared.Outcome.{Outcome}
 use Rattle.outcomes.specs.declared.Outcome.the-variants.{Ask, Stop, Limit, Refused}
-use Rattle.outcomes.specs.declared.Iterations.{Iterations}
 use Rattle.curves.specs.declared.Curve.{Curve}
 use Rattle.curves.specs.Curves.{valueOf, slopeOf}
 use Rattle.hagerzhang.specs.declared.Search.{Search}
@@ -15,7 +12,7 @@ use Rattle.hagerzhang.specs.Machine.{answerOf}
 use Rattle.hagerzhang.specs.Meaning.{report}
 use Rattle.play.specs.declared.Played.{Played}
 use Rattle.play.specs.declared.Played.the-variants.{On, Over}
-use Rattle.play.specs.Telling.{Said, iterationsIn}
+use Rattle.play.specs.Telling.{Said, iterationsIn, textOf}
 
 abbrev pub finishedOf : Search → ℕ
 finishedOf s = iterationsIn (report s)
@@ -44,3 +41,12 @@ unfoldable pub leftAfter : ℕ → Curve → Played → Played
 leftAfter zero c p = p
 leftAfter (suc n) c Over = Over
 leftAfter (suc n) c (On t) = leftAfter n c (nextOf c t)
+
+-- k chunks of n turns each: their text, and what is left
+unfoldable pub chunks : Curve → ℕ → ℕ → Played → List ℕ
+chunks c n zero p = []
+chunks c n (suc k) p = textOf (saidIn n c p) ++ chunks c n k (leftAfter n c p)
+
+unfoldable pub leftAfterChunks : Curve → ℕ → ℕ → Played → Played
+leftAfterChunks c n zero p = p
+leftAfterChunks c n (suc k) p = leftAfterChunks c n k (leftAfter n c p)
