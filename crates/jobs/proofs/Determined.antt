@@ -1,7 +1,6 @@
 -- Any two answers that the contracts of `read` and `begin` allow are identical. Assumes nothing.
 use mathlib.Core.Path.{_≡_, refl, ap}
 use mathlib.Core.Bool.{cond}
-use Prim.Native.Nat.{ℕ}
 use lib.Dec.{eqb}
 use Rattle.numbers.specs.Answers.{Answer, value, refused}
 use Rattle.numbers.proofs.Determined.{determined}

@@ -1,17 +1,16 @@
 -- A part of the job from a place on, in the reader's terms. Assumes nothing.
-use mathlib.Core.Path.{_≡_, refl, sym, ap, _∙_}
-use mathlib.Core.Bool.{Bool, true, false, cond, _&&_}
+use mathlib.Core.Path.{_≡_, sym, ap, _∙_}
+use mathlib.Core.Bool.{true, false, _&&_}
 use mathlib.Core.List.{List, [], _∷_}
-use Prim.Native.Nat.{ℕ, zero, suc, _+_, _-_, _*_, _≤_, _<_}
+use Prim.Native.Nat.{ℕ, zero, suc, _+_, _-_, _≤_, _<_}
 use native.Mathlib.Omega.{arith}
-use lib.Dec.{leb, eqb}
+use lib.Dec.{eqb}
 use lib.ListN.{length, take, drop, getD, length-drop}
 use lib.Seq.{getD-drop, getD-take, drop-drop, take-nil, drop-nil}
 use borrow.Author.Tests.{le-leb, lt-leb, leb-true}
 use Rattle.outcomes.proofs.Branches.{and-first}
-use mathlib.Core.Option.{some, none}
 use lib.Ieee.{Float}
-use Rattle.wire.specs.Wire.{byteAt, pairOf, floatOf}
+use Rattle.wire.specs.Wire.{pairOf, floatOf}
 use Rattle.jobs.specs.Format.{said}
 use Rattle.jobs.specs.Reader.{begins, found, behind}
 

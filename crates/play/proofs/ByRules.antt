@@ -4,17 +4,15 @@ use mathlib.Core.Path.{_≡_, refl, sym, ap, _∙_, subst}
 use mathlib.Core.Bool.{Bool, true, false, cond}
 use mathlib.Core.List.{List, [], _∷_, _++_, append-nil, append-assoc}
 use Prim.Native.Nat.{ℕ, zero, suc, _+_, _-_, _≤_, _<_}
-use native.Mathlib.Nat.{not-suc-le-zero, le-of-suc-le-suc}
 use native.Mathlib.Omega.{arith}
-use lib.Dec.{ltb}
-use lib.ListN.{length, length-append}
+use lib.ListN.{length}
 use lib.Ieee.{Float}
 use borrow.Author.Tests.{lt-ltb}
 use Rattle.outcomes.specs.Outcomes.{asks, ends, told}
 use Rattle.outcomes.specs.Asking.{Search as Run, Over as Ended, ask, end, respond, shown, reported, rest}
 use Rattle.outcomes.specs.Counters.{counted}
 use Rattle.outcomes.proofs.Branches.{either, by-test}
-use Rattle.outcomes.proofs.Ends.{Ends, at-end, at-ask}
+use Rattle.outcomes.proofs.Ends.{Ends, at-ask}
 use Rattle.outcomes.proofs.Determined.{told-determined}
 use Rattle.outcomes.specs.declared.Outcome.{Outcome}
 use Rattle.outcomes.specs.declared.Outcome.the-variants.{Ask, Stop, Limit, Refused}

@@ -1,7 +1,7 @@
 -- A play ends: each turn of it leaves less to tell (`less-to-tell`), and leaves a play that ends likewise (`plays-on`). This is what a loop over a play rests on. Assumes nothing.
 use mathlib.Core.Path.{_≡_, refl, sym, ap, _∙_}
-use mathlib.Core.List.{List, [], _∷_, _++_}
-use Prim.Native.Nat.{ℕ, zero, suc, _+_, _≤_, _<_}
+use mathlib.Core.List.{List, []}
+use Prim.Native.Nat.{ℕ, zero, suc, _+_, _<_}
 use native.Mathlib.Omega.{arith}
 use lib.ListN.{length, length-append}
 use Rattle.numbers.specs.Answers.{value}
@@ -15,8 +15,8 @@ use Rattle.jobs.specs.Start.{beginOf}
 use Rattle.play.specs.declared.Played.{Played}
 use Rattle.play.specs.declared.Played.the-variants.{On, Over}
 use Rattle.play.specs.Telling.{Said, telling}
-use Rattle.play.specs.Playing.{saidOf, nextOf, saidIn, leftAfter}
-use Rattle.play.proofs.ByRules.{Stands, Matches, at-over, at-step, plays}
+use Rattle.play.specs.Playing.{saidIn, leftAfter}
+use Rattle.play.proofs.ByRules.{Matches, at-over, at-step, plays}
 use Rattle.play.proofs.Output.{begun-plays, limit-fits}
 
 -- how many outcomes there are to tell

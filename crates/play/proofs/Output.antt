@@ -1,14 +1,13 @@
 -- What is written for a job is 01's text for it: a job that begins is played by the rules (`begun-plays`), its lines, chunk after chunk, are the whole text once the play is over (`output-told`),
 -- there are at most 30,030,004 of them (`few-lines`), and a job that does not begin has its refusal's line (`output-refused`). Assumes nothing.
 use mathlib.Core.Path.{_≡_, refl, sym, ap, _∙_, subst}
-use mathlib.Core.Bool.{Bool, true, false, cond, _&&_}
-use mathlib.Core.List.{List, [], _∷_, _++_}
-use Prim.Native.Nat.{ℕ, zero, suc, _+_, _*_, _≤_, _<_, suc-le-suc}
+use mathlib.Core.Bool.{Bool, true, false, _&&_}
+use mathlib.Core.List.{List}
+use Prim.Native.Nat.{ℕ, suc, _+_, _*_, _≤_, _<_, suc-le-suc}
 use native.Mathlib.Nat.{mul-le-mul-right}
 use native.Mathlib.Omega.{arith}
 use lib.Dec.{leb}
 use lib.ListN.{length}
-use lib.Ieee.{Float}
 use lib.Ieee.Scale.{finite}
 use borrow.Author.Tests.{leb-true}
 use Rattle.numbers.specs.Answers.{Answer, value, refused, unless_refuse_else_}
@@ -27,9 +26,8 @@ use Rattle.lines.specs.Lines.{refusedLine}
 use Rattle.jobs.specs.declared.Job.{Job}
 use Rattle.jobs.specs.Reader.{jobOf}
 use Rattle.jobs.specs.Start.{hasCurve, curveOf, f0Of, s0Of, admittedOf, firstStep, beginsWith, beginsBy, beginOf}
-use Rattle.play.specs.declared.Played.{Played}
 use Rattle.play.specs.declared.Played.the-variants.{On, Over}
-use Rattle.play.specs.Telling.{Said, telling, textOf}
+use Rattle.play.specs.Telling.{telling}
 use Rattle.play.specs.Playing.{chunks, leftAfterChunks}
 use Rattle.play.specs.Output.{searchText, jobText, outputOf}
 use Rattle.play.proofs.ByRules.{Stands, Matches, at-step, chunks-told}

@@ -1,9 +1,9 @@
 -- Nothing is cut off: 512 turns write at most 99 bytes each, and a buffer of 65,536 bytes has room for all of them, so that its front is then their text
 -- (`whole-lines`). Assumes nothing.
-use mathlib.Core.Path.{_≡_, refl, sym, ap, _∙_, subst}
+use mathlib.Core.Path.{_≡_, sym, ap, _∙_, subst}
 use mathlib.Core.Bool.{Bool, true, false, cond}
 use mathlib.Core.List.{List, [], _∷_, _++_, append-nil}
-use Prim.Native.Nat.{ℕ, zero, suc, _+_, _*_, _/_, _%_, _≤_, _<_}
+use Prim.Native.Nat.{ℕ, zero, suc, _+_, _*_, _/_, _%_, _≤_}
 use native.Mathlib.Omega.{arith}
 use lib.Dec.{ltb}
 use lib.ListN.{length, take, set, length-set, length-append}
@@ -12,11 +12,11 @@ use native.Mathlib.Numerals.{add-one}
 use borrow.Author.Tests.{lt-ltb}
 use Rattle.outcomes.specs.Outcomes.{Word, met, wolfe, approximate, stop, limit, refusal, Told, asks, ends}
 use Rattle.curves.specs.declared.Curve.{Curve}
-use Rattle.text.specs.Text.{Page, page, put, write, bytes, digit, decimalUpTo, decimalOf}
+use Rattle.text.specs.Text.{Page, page, put, write, digit, decimalUpTo}
 use Rattle.lines.specs.Lines.{verdictText, lineOf}
 use Rattle.play.specs.declared.Played.{Played}
 use Rattle.play.specs.declared.Played.the-variants.{On, Over}
-use Rattle.play.specs.Telling.{Said, saidLine, textOf}
+use Rattle.play.specs.Telling.{Said, textOf}
 use Rattle.play.specs.Playing.{nextOf, saidIn}
 
 -- ---- lines are short

@@ -1,15 +1,15 @@
 -- One turn more, in what is said and in what is left. Assumes nothing.
-use mathlib.Core.Path.{_≡_, refl, sym, ap, _∙_}
-use mathlib.Core.List.{List, [], _∷_, _++_}
-use Prim.Native.Nat.{ℕ, zero, suc, _+_, _-_, _<_, _≤_}
+use mathlib.Core.Path.{_≡_, refl, sym}
+use mathlib.Core.List.{[], _∷_}
+use Prim.Native.Nat.{ℕ, zero, suc, _-_, _<_, _≤_}
 use native.Mathlib.Omega.{arith}
 use Rattle.curves.specs.declared.Curve.{Curve}
 use Rattle.hagerzhang.specs.declared.Step.{Step}
-use Rattle.text.specs.Text.{Page, page, write}
+use Rattle.text.specs.Text.{Page, write}
 use Rattle.text.proofs.Writing.{nothing, then}
 use Rattle.play.specs.declared.Played.{Played}
 use Rattle.play.specs.declared.Played.the-variants.{On, Over}
-use Rattle.play.specs.Telling.{Said, saidLine, textOf}
+use Rattle.play.specs.Telling.{saidLine, textOf}
 use Rattle.play.specs.Playing.{saidOf, nextOf, saidIn, leftAfter}
 
 module _ (c : Curve) where

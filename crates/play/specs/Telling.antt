@@ -2,7 +2,6 @@
 use Prim.Native.Nat.{ℕ, _+_}
 use mathlib.Core.Bool.{cond}
 use mathlib.Core.List.{List, [], _∷_, _++_}
-use Rattle.numbers.specs.Answers.{Answer, value, refused}
 use Rattle.outcomes.specs.Outcomes.{Told, asks, ends}
 use Rattle.outcomes.specs.Asking.{Search, ask, end}
 use Rattle.rules.specs.Rules.{answerFinite, Report, noneYet, last}

@@ -10,7 +10,6 @@ use outcomes::Iterations;
 use outcomes::Outcome;
 ghost use mathlib.Core.Path.{_≡_};
 ghost use Rattle.text.specs.Text.{page, write};
-ghost use Rattle.lines.specs.Lines.{lineOf};
 ghost use Rattle.hagerzhang.specs.Machine.{keptOf};
 ghost use Rattle.hagerzhang.specs.Meaning.{keptReport};
 ghost use Rattle.play.specs.Telling.{iterationsIn, saidLine, textOf};

@@ -1,5 +1,5 @@
 -- `play::answered` meets its contract. Assumes nothing.
-use mathlib.Core.Path.{_∙_, ap}
+use mathlib.Core.Path.{ap}
 use borrow.Author.Needs.{needs}
 use Rattle.play.specs.declared.Played.the-variants.{On}
 use Rattle.play.specs.Playing.{answeredBy}
