@@ -11,8 +11,8 @@ use Rattle.numbers.specs.Answers.{Answer, value, refused}
 use Rattle.rules.specs.declared.Options.{Options}
 use Rattle.wire.specs.Wire.{byteAt}
 use Rattle.jobs.specs.declared.Job.{Job}
-use Rattle.jobs.specs.Format.{optionsOf, decoded}
-use Rattle.jobs.specs.Reader.{begins, found, behind, jobOf}
+use Rattle.jobs.specs.Format.{decoded}
+use Rattle.jobs.specs.Reader.{begins, found, behind, optionsAt, jobOf}
 
 either-way : (b : Bool) (a : Answer Job) → a ≡ cond b a a
 either-way true a = refl
@@ -23,33 +23,40 @@ has-curve : (s : List ℕ) (curve : ℕ) (o options : Options) → begins 1 1 s 
 unfolding found decoded
 has-curve s curve o options h c e = rw (h, c, e)
 
-module _ (s : List ℕ) where
-  -- no curve, no job
-  pub no-curve : begins 1 1 s ≡ false → refused 9 ≡ jobOf s
-  unfolding found decoded
-  no-curve h =
-      let left = behind 6 2 (behind 5 2 (behind 4 8 (behind 3 8 (behind 2 16 (behind 1 1 s))))) in
-      rw h (either-way (eqb (length left) 0) (refused 9))
+-- no curve, no job
+pub no-curve : (s : List ℕ) → begins 1 1 s ≡ false → refused 9 ≡ jobOf s
+unfolding found decoded
+no-curve s h =
+    let left = behind 6 2 (behind 5 2 (behind 4 8 (behind 3 8 (behind 2 16 (behind 1 1 s))))) in
+    rw h (either-way (eqb (length left) 0) (refused 9))
 
-  module _ (start epsilon budget limit end : ℕ) (has : begins 1 1 s ≡ true) (p2 : drop start s ≡ behind 2 16 (drop 4 s)) (p3 : drop epsilon s ≡ behind 3 8 (drop start s))
-      (p4 : drop budget s ≡ behind 4 8 (drop epsilon s)) (p5 : drop limit s ≡ behind 5 2 (drop budget s)) (p6 : drop end s ≡ behind 6 2 (drop limit s))
-      (within : end ≤ length s) where
-    p1 : drop 4 s ≡ behind 1 1 s
-    unfolding behind
-    p1 = rw has
+-- the places behind the fields 1 to 6, of which the first is there
+pub record Places (s : List ℕ) (start epsilon budget limit end : ℕ) : Type 0 where
+  pub curve : begins 1 1 s ≡ true
+  pub behind-bounds : drop start s ≡ behind 2 16 (drop 4 s)
+  pub behind-start : drop epsilon s ≡ behind 3 8 (drop start s)
+  pub behind-epsilon : drop budget s ≡ behind 4 8 (drop epsilon s)
+  pub behind-budget : drop limit s ≡ behind 5 2 (drop budget s)
+  pub behind-limit : drop end s ≡ behind 6 2 (drop limit s)
+  pub within : end ≤ length s
 
-    -- something is left
-    pub left-over : (end ≡ length s → ⊥) → refused 9 ≡ jobOf s
-    left-over h =
-        let l : length (drop end s) ≡ length s - end = length-drop end s in
-        let e : eqb (length (drop end s)) 0 ≡ false = ne-eqb (length (drop end s)) 0 (λ (z : length (drop end s) ≡ 0). h (omega arith)) in
-        rw (← p1, ← p2, ← p3, ← p4, ← p5, ← p6, e)
+module _ (s : List ℕ) (start epsilon budget limit end : ℕ) (p : Places s start epsilon budget limit end) where
+  behind-curve : drop 4 s ≡ behind 1 1 s
+  unfolding behind
+  behind-curve = rw (p .curve)
 
-    -- nothing is left
-    pub whole : end ≡ length s → (curve : ℕ) (options : Options) → curve ≡ byteAt (take 1 (drop 3 s)) 0
-        → options ≡ optionsOf (found 2 16 (drop 4 s)) (found 3 8 (drop start s)) (found 4 8 (drop epsilon s)) (found 5 2 (drop budget s)) (found 6 2 (drop limit s))
-        → value (record { curve = curve; options = options }) ≡ jobOf s
-    whole h curve options c o =
-        let l : length (drop end s) ≡ length s - end = length-drop end s in
-        let e : eqb (length (drop end s)) 0 ≡ true = eq-eqb (length (drop end s)) 0 (omega arith) in
-        rw (← p1, ← p2, ← p3, ← p4, ← p5, ← p6, e) (has-curve s curve options _ has c o)
+  -- something is left
+  pub left-over : (end ≡ length s → ⊥) → refused 9 ≡ jobOf s
+  left-over h =
+      let l : length (drop end s) ≡ length s - end = length-drop end s in
+      let within = p .within in
+      let e : eqb (length (drop end s)) 0 ≡ false = ne-eqb (length (drop end s)) 0 (λ (z : length (drop end s) ≡ 0). h (omega arith)) in
+      rw (← behind-curve, ← p .behind-bounds, ← p .behind-start, ← p .behind-epsilon, ← p .behind-budget, ← p .behind-limit, e)
+
+  -- nothing is left
+  pub whole : end ≡ length s → (curve : ℕ) (options : Options) → curve ≡ byteAt (take 1 (drop 3 s)) 0
+      → options ≡ optionsAt s 4 start epsilon budget limit → value (record { curve = curve; options = options }) ≡ jobOf s
+  whole h curve options c o =
+      let l : length (drop end s) ≡ length s - end = length-drop end s in
+      let e : eqb (length (drop end s)) 0 ≡ true = eq-eqb (length (drop end s)) 0 (omega arith) in
+      rw (← behind-curve, ← p .behind-bounds, ← p .behind-start, ← p .behind-epsilon, ← p .behind-budget, ← p .behind-limit, e) (has-curve s curve options _ (p .curve) c o)

@@ -7,6 +7,7 @@ use mathlib.Core.Option.{Option, some, none}
 use lib.Dec.{leb, eqb}
 use lib.ListN.{length, take, drop}
 use Rattle.numbers.specs.Answers.{Answer, value, refused, unless_refuse_else_}
+use Rattle.rules.specs.declared.Options.{Options}
 use Rattle.wire.specs.Wire.{byteAt, pairOf}
 use Rattle.jobs.specs.declared.Job.{Job}
 use Rattle.jobs.specs.declared.Reading.{Reading}
@@ -23,6 +24,11 @@ found tag n s = cond (begins tag n s) (some (take n (drop 3 s))) none
 
 unfoldable pub behind : ℕ → ℕ → List ℕ → List ℕ
 behind tag n s = cond (begins tag n s) (drop (3 + n) s) s
+
+-- what the fields 2 to 6 say, each looked for at its place
+abbrev pub optionsAt : List ℕ → ℕ → ℕ → ℕ → ℕ → ℕ → Options
+optionsAt s bounds start epsilon budget limit =
+    optionsOf (found 2 16 (drop bounds s)) (found 3 8 (drop start s)) (found 4 8 (drop epsilon s)) (found 5 2 (drop budget s)) (found 6 2 (drop limit s))
 
 abbrev pub jobOf : List ℕ → Answer Job
 jobOf s1 =

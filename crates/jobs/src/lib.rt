@@ -11,8 +11,8 @@ ghost use mathlib.Core.Path.{_≡_};
 ghost use Prim.Native.Nat.{_+_, _≤_};
 ghost use lib.ListN.{length, drop};
 ghost use Rattle.wire.specs.Wire.{pairOf, floatOf};
-ghost use Rattle.jobs.specs.Format.{said, optionsOf};
-ghost use Rattle.jobs.specs.Reader.{begins, found, behind, jobOf, readTold};
+ghost use Rattle.jobs.specs.Format.{said};
+ghost use Rattle.jobs.specs.Reader.{begins, found, behind, optionsAt, jobOf, readTold};
 ghost use Rattle.jobs.specs.Start.{startedOn, beginsBy, beginOf, openedTold};
 ghost use Rattle.numbers.specs.Answers.{value};
 ghost use Rattle.floats.specs.Arithmetic.{0ᶠ};
@@ -104,7 +104,7 @@ fn options(
     limit: usize,
 ) -> Options
     requires { ⌜ (bounds ≤ length (now job)) × (start ≤ length (now job)) × (epsilon ≤ length (now job)) × (budget ≤ length (now job)) × (limit ≤ length (now job)) ⌝ }
-    ensures { λ r. ⌜ r ≡ optionsOf (found 2 16 (drop bounds (now (job .entry)))) (found 3 8 (drop start (now (job .entry)))) (found 4 8 (drop epsilon (now (job .entry)))) (found 5 2 (drop budget (now (job .entry)))) (found 6 2 (drop limit (now (job .entry)))) ⌝ }
+    ensures { λ r. ⌜ r ≡ optionsAt (now (job .entry)) bounds start epsilon budget limit ⌝ }
 {
     let d = rules::defaults();
     let p = d.params;

@@ -1,4 +1,4 @@
--- A play tells what 01's rules tell with the curve's answers: turn after turn (`plays`), all of it by the time the play is over (`told-all`), and it is over after as many
+-- A play tells what 01's rules tell with the curve's answers: turn after turn (`plays`), all of it once the play is over (`chunks-told`), and it is over after as many
 -- turns as there is to tell (`over-in-time`). Assumes nothing.
 use mathlib.Core.Path.{_≡_, refl, sym, ap, _∙_, subst}
 use mathlib.Core.Bool.{Bool, true, false, cond}
@@ -206,14 +206,7 @@ module _ (s : Setup) (fits : s .options .limit < 4294967296) (c : Curve) where
   nothing-left Over [] at-over e = refl
   nothing-left (On t) l h e = let z : _≡_ {A = ℕ} 0 1 = cc in absurd (omega arith)
 
-  -- once a play is over, all is told
-  pub told-all : (n : ℕ) (p : Played) (l : List Said) → Matches p l → leftAfter n c p ≡ Over → saidIn n c p ≡ l
-  told-all n p l h e =
-      let g = plays n p l h in
-      let z : g .others ≡ [] = nothing-left (leftAfter n c p) (g .others) (g .matches) e in
-      sym (g .split ∙ ap (λ (a : List Said). saidIn n c p ++ a) z ∙ append-nil (saidIn n c p))
-
-  -- and it is over after as many turns as there is to tell
+  -- it is over after as many turns as there is to tell
   pub over-in-time : (n : ℕ) (p : Played) (l : List Said) → Matches p l → length l ≤ n → leftAfter n c p ≡ Over
   unfolding leftAfter
   over-in-time zero Over [] at-over h = refl

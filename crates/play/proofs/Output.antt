@@ -1,5 +1,5 @@
 -- What is written for a job is 01's text for it: a job that begins is played by the rules (`begun-plays`), its lines, chunk after chunk, are the whole text once the play is over (`output-told`),
--- there are at most 30,030,004 of them (`few-lines`), and a job that does not begin has its refusal's line (`output-refused`). Assumes nothing.
+-- there are at most 30,030,004 of them (`few-lines`, `over-at-last`), and a job that does not begin has its refusal's line (`output-refused`). Assumes nothing.
 use mathlib.Core.Path.{_≡_, refl, sym, ap, _∙_, subst}
 use mathlib.Core.Bool.{Bool, true, false, _&&_}
 use mathlib.Core.List.{List}
@@ -28,9 +28,9 @@ use Rattle.jobs.specs.Reader.{jobOf}
 use Rattle.jobs.specs.Start.{hasCurve, curveOf, f0Of, s0Of, admittedOf, firstStep, beginsWith, beginsBy, beginOf}
 use Rattle.play.specs.declared.Played.the-variants.{On, Over}
 use Rattle.play.specs.Telling.{telling}
-use Rattle.play.specs.Playing.{chunks, leftAfterChunks}
+use Rattle.play.specs.Playing.{leftAfter, chunks, leftAfterChunks}
 use Rattle.play.specs.Output.{searchText, jobText, outputOf}
-use Rattle.play.proofs.ByRules.{Stands, Matches, at-step, chunks-told}
+use Rattle.play.proofs.ByRules.{Stands, Matches, at-step, over-in-time, chunks-told}
 
 -- ---- a setup that a job is given has its counts in range
 record InRange (o : Options) : Type 0 where
@@ -149,3 +149,9 @@ few-lines s c t p =
     let h = tells-few c 0 (most (p .job) (p .setup) (p .is-admitted)) (search (p .setup)) (unfold most in search-within (p .setup)) in
     let m = at-most (p .job) (p .setup) (p .is-admitted) in
     omega arith
+
+-- so that the play is over after as many turns
+pub over-at-last : (s : List ℕ) (c : Curve) (t : Step) → Plays s c t → (n : ℕ) → 30030004 ≤ n → leftAfter n c (On t) ≡ Over
+over-at-last s c t p n h =
+    let few = few-lines s c t p in
+    over-in-time (p .setup) (limit-fits (p .job) (p .setup) (p .is-admitted)) c n (On t) (telling c 0 (search (p .setup))) (p .matches) (omega arith)
