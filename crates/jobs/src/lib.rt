@@ -8,7 +8,7 @@ use outcomes::Refusal;
 use rules::Options;
 use rules::Params;
 ghost use mathlib.Core.Path.{_≡_};
-ghost use Prim.Native.Nat.{_+_, _≤_};
+ghost use Prim.Native.Nat.{_≤_};
 ghost use lib.ListN.{length, drop};
 ghost use Rattle.wire.specs.Wire.{pairOf, floatOf};
 ghost use Rattle.jobs.specs.Format.{said};
@@ -20,7 +20,7 @@ ghost use Rattle.curves.specs.Curves.{valueOf, slopeOf};
 ghost use Rattle.hagerzhang.specs.Machine.{startOf};
 
 pub struct Job {
-    // its number, from 1
+    // the curve's number, as the job has it
     pub curve: u32,
     pub options: Options,
 }
