@@ -1,7 +1,7 @@
 -- What is proved of a backtracking search that `start` accepts, for every list of answers: its outcomes and its count of iterations are those of 01's
 -- rules; it is over after 1 + N answers; its evaluations are the finite answers accepted. Assumes nothing.
 use mathlib.Core.Path.{_≡_, refl, sym, ap, _∙_, subst}
-use mathlib.Core.Bool.{Bool, true, false, cond, not, _&&_, false≢true}
+use mathlib.Core.Bool.{Bool, true, false, cond, _&&_, false≢true}
 use mathlib.Core.List.{List, [], _∷_}
 use Prim.Native.Nat.{ℕ, zero, suc, _+_, _-_, _≤_, _<_}
 use native.Mathlib.Omega.{arith}
@@ -12,7 +12,7 @@ use lib.Ieee.{Float}
 use lib.Ieee.Scale.{finite}
 use borrow.Author.Tests.{leb-true, lt-ltb}
 use Rattle.outcomes.specs.Outcomes.{refusal, Told, told}
-use Rattle.outcomes.specs.Asking.{Search, over, Reply, respond, shown, reported, isOver, rest, outcomes, after, accepted, reached, played}
+use Rattle.outcomes.specs.Asking.{Search, over, Reply, respond, shown, reported, isOver, rest, outcomes, after, accepted, notFinite, reached, played}
 use Rattle.outcomes.specs.Counters.{counted, evaluations, iterations}
 use Rattle.outcomes.proofs.Ends.{Ends, at-end, ends-if, question-ends, ends-over, ends-accepted, non-finite-last as ends-non-finite-last, non-finite-once as ends-non-finite-once}
 use Rattle.outcomes.proofs.Branches.{either, by-test, and-second}
@@ -210,7 +210,7 @@ module _ (s : Setup) (b : Backtracking) (new : FreshSearch s b) (ys : List Reply
       ∙ ends-over (trials-end s (s .limit) 0 0 (s .alpha)) ys (omega arith))
 
   -- of the answers given while the search asks at most one is not finite, and it is the last: 2, with what was reported
-  pub non-finite-once : accepted (λ f g. not (answerFinite (s .condition) f g)) (search s) ys ≤ 1
+  pub non-finite-once : notFinite (answerFinite (s .condition)) (search s) ys ≤ 1
   non-finite-once = ends-non-finite-once (trials-end s (s .limit) 0 0 (s .alpha)) ys
 
   pub non-finite-last : (f g : Float) → isOver (after (search s) ys) ≡ false → answerFinite (s .condition) f g ≡ false

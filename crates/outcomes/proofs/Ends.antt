@@ -9,7 +9,7 @@ use native.Mathlib.Omega.{arith}
 use lib.ListN.{length}
 use lib.Ieee.{Float}
 use Rattle.outcomes.specs.Outcomes.{refusal}
-use Rattle.outcomes.specs.Asking.{ask, end, Search, Over, over, leaving, question, Reply, respond, reported, isOver, after, accepted}
+use Rattle.outcomes.specs.Asking.{ask, end, Search, Over, over, leaving, question, Reply, respond, reported, isOver, after, accepted, notFinite}
 
 pub data Ends {K : Type 0} (finite : Float → Float → Bool) : ℕ → Search K → Type 0 where
   at-end : {n : ℕ} {o : Over K} → Ends finite n (end o)
@@ -67,7 +67,7 @@ module _ {K : Type 0} {finite : Float → Float → Bool} where
   non-finite-last (at-ask v e) [] f g asking u = v f g u
   non-finite-last (at-ask v e) (y ∷ ys) f g asking u = non-finite-last (e (y .0) (y .1)) ys f g asking u
 
-  pub non-finite-once : {n : ℕ} {r : Search K} → Ends finite n r → (ys : List Reply) → accepted (λ f g. not (finite f g)) r ys ≤ 1
+  pub non-finite-once : {n : ℕ} {r : Search K} → Ends finite n r → (ys : List Reply) → notFinite finite r ys ≤ 1
   unfolding accepted
   non-finite-once at-end [] = omega arith
   non-finite-once at-end (y ∷ ys) = omega arith
