@@ -2,17 +2,21 @@
 
 use crate::random::{Random, BAD};
 
+const FEW: [f64; 9] = [-2.0, -1.0, -0.5, -0.0, 0.0, 0.5, 1.0, 2.0, 3.0];
+
 pub enum Shape {
     /// Coefficients from the constant up; value and slope by Horner's forms.
     Polynomial(Vec<f64>),
     /// Few values: many ties, both zeros.
     Few,
+    /// Few costs, and slopes that differ.
+    Ties,
     /// Numbers with exponents of two in a range.
     Sized(i32, i32),
     /// Any finite bits.
     Any,
-    /// The slope is negative below a step and not from there on; costs lie around L.
-    Split { at: f64, level: f64 },
+    /// The slope is negative below a step and not from there on; costs lie around L, and below it at `low`.
+    Split { low: f64, at: f64, level: f64 },
     /// Rising slopes in a window alone and from `end` on; low costs below the window, costs above L behind it.
     Window { low: f64, high: f64, end: f64, level: f64 },
     /// Costs and slopes on the very edge of the conditions and the verdict, or a float beside it.
@@ -52,28 +56,26 @@ impl Shape {
     pub fn answer(&self, r: &mut Random, x: f64) -> (f64, f64) {
         match *self {
             Shape::Polynomial(ref c) => polynomial(c, x),
-            Shape::Few => {
-                let few = [-2.0, -1.0, -0.5, -0.0, 0.0, 0.5, 1.0, 2.0, 3.0];
-                (r.pick(&few), r.pick(&few))
-            }
+            Shape::Few => (r.pick(&FEW), r.pick(&FEW)),
+            Shape::Ties => (r.pick(&FEW), r.signed(-4, 4)),
             Shape::Sized(low, high) => (r.signed(low, high), r.signed(low, high)),
             Shape::Any => (r.finite(), r.finite()),
-            Shape::Split { at, level } => {
+            Shape::Split { low, at, level } => {
                 let size = r.sized(-6, 6);
-                let f = match r.below(4) {
-                    0 => r.near(level),
-                    1 => level + size,
+                let f = match r.below(5) {
+                    0 if x > low => r.near(level),
+                    1 | 2 if x > low => level + size,
                     _ => level - size,
                 };
                 let g = r.sized(-6, 6);
-                (f, if x < at { -g } else { r.pick(&[g, g, g, 0.0, -0.0]) })
+                (f, if x < at { -g } else if r.one_in(12) { r.pick(&[0.0, -0.0]) } else { g })
             }
             Shape::Window { low, high, end, level } => {
                 let (size, g) = (r.sized(-6, 6), r.sized(-6, 6));
                 if x < low {
                     (r.pick(&[level, level - size]), -g)
                 } else if x < high {
-                    (r.pick(&[level - size, level + size]), r.pick(&[g, g, 0.0, -0.0]))
+                    (r.pick(&[level - size, level + size]), r.pick(&[g, g, g, g, 0.0, -0.0]))
                 } else if x < end {
                     (level + size, -g)
                 } else {

@@ -10,7 +10,7 @@ use crate::solver::linesearch::condition::{
     ArmijoCondition, GoldsteinCondition, LineSearchCondition, StrongWolfeCondition, WolfeCondition,
 };
 use crate::solver::linesearch::{BacktrackingLineSearch, HagerZhangLineSearch};
-use argmin_math::{ArgminDot, ArgminScaledAdd};
+use crate::{ArgminDot, ArgminScaledAdd};
 
 /// So many evaluations past a refusal, and the run is broken off: most of these loop for ever in U3.
 const PATIENCE: u32 = 2000;
@@ -135,11 +135,13 @@ struct Watch {
 }
 
 /// The rules as `Watch` notes them.
-pub const RULES: [(char, &str); 16] = [
+pub const RULES: [(char, &str); 18] = [
     ('0', "U0"),
     ('1', "U1"),
     ('2', "U2"),
-    ('3', "U3"),
+    ('3', "U3 in S1"),
+    ('4', "U3 in S4"),
+    ('5', "U3 in L2"),
     ('+', "U3 ended before its budget"),
     ('=', "U3 ended by its last answer"),
     ('<', "U3 moved its low end"),
@@ -214,7 +216,12 @@ impl Watch {
             ('2', true)
         } else {
             self.u3 = Some(Between { low: self.low, high: x, had: 0 });
-            ('3', false)
+            let rule = match self.stage {
+                Stage::S1 => '3',
+                Stage::S4 => '4',
+                _ => '5',
+            };
+            (rule, false)
         };
         self.rules.push(rule);
         if updated {

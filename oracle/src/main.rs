@@ -6,6 +6,10 @@
 //!
 //! FOLDER gets the files list.cases, list.expected and list.kinds.
 
+// argmin's files find argmin_math's two traits here
+extern crate self as argmin_math;
+pub use math::{ArgminDot, ArgminScaledAdd};
+
 #[macro_use]
 #[allow(dead_code)]
 mod core;
@@ -13,6 +17,7 @@ mod answers;
 mod cases;
 mod drive;
 mod make;
+mod math;
 mod random;
 #[allow(dead_code, unused_imports, unexpected_cfgs)]
 mod solver {
@@ -29,7 +34,7 @@ use std::io::{self, BufWriter, Write};
 use std::path::Path;
 
 /// A listed case has no more answers than this.
-const SHORT: usize = 12;
+const SHORT: usize = 10;
 
 /// The whole search, now and then with answers past its end; for some the answers up to each finished iteration, and up to
 /// any answer.
@@ -73,20 +78,23 @@ fn made(kind: &str, seed: u64, count: u64, folder: &Path) -> io::Result<()> {
     let mut rules = BTreeMap::new();
     let mut past = [0; 4];
     let mut ways = HashSet::new();
+    let mut taken = BTreeMap::new();
     let mut searches = 0;
-    let mut nth = 0;
+    let mut nth = 0u64;
     while files.count < count {
-        let mut search = make::search(seed, nth);
         let r = &mut Random::new(seed ^ nth.rotate_left(32));
+        let mut search = make::search(r, nth);
         nth += 1;
         if kind == "list" {
             search.most = SHORT;
         }
         let run = drive::run(&search.start, &search.model, search.most);
         if kind == "list" {
-            if !ways.insert(way(&search, &run)) {
+            let taken = taken.entry(search.kind).or_insert(0);
+            if *taken == count.div_ceil(make::KINDS) || !run.rules.is_empty() && !ways.insert(way(&search, &run)) {
                 continue;
             }
+            *taken += 1;
             files.case(search.kind, &search.start, &run, run.answers.len(), &more(r, &run))?;
         } else {
             write_random(&mut files, r, &search, &run)?;

@@ -4,6 +4,9 @@ use crate::answers::{Damage, Model, Shape};
 use crate::cases::{Backtracking, Condition, HagerZhang, Start};
 use crate::random::{Random, BAD, TINY};
 
+/// How many kinds of search there are.
+pub const KINDS: u64 = 13;
+
 pub struct Search {
     pub kind: &'static str,
     pub start: Start,
@@ -31,19 +34,19 @@ const ENDS: [f64; 14] =
     [0.0, -0.0, TINY, -TINY, -1.0, 0.5, 0.5 - f64::EPSILON / 4.0, 1.0, BELOW_ONE, 1.0 + f64::EPSILON, 2.0, 1e5, f64::MAX, f64::MIN];
 
 fn bounds(r: &mut Random) -> (f64, f64) {
-    let (low, high) = match r.below(10) {
-        0 => (f64::EPSILON, 1e5),
-        1 => (r.below(3) as f64, (3 + r.below(10)) as f64),
-        2 => (r.pick(&[0.0, -0.0]), r.sized(-20, 20)),
+    let (low, high) = match r.below(16) {
+        0 | 1 => (f64::EPSILON, 1e5),
+        2 | 3 => (r.below(3) as f64, (3 + r.below(10)) as f64),
+        4 | 5 => (r.pick(&[0.0, -0.0]), r.sized(-20, 20)),
+        6 => (0.0, f64::from_bits(1 + r.below(1000))),
+        7 => (r.sized(-1022, 1022), r.sized(1000, 1023)),
         // narrower than EPS: S2 and S3 hold together
-        3 => (r.unit() * f64::EPSILON / 2.0, r.unit() * f64::EPSILON),
+        8 => (r.unit() * f64::EPSILON / 2.0, r.unit() * f64::EPSILON),
         // a few floats apart
-        4 => {
+        9 => {
             let low = r.sized(-5, 5);
             (low, f64::from_bits(low.to_bits() + 1 + r.below(6)))
         }
-        5 => (r.sized(-1022, 1022), r.sized(1000, 1023)),
-        6 => (0.0, f64::from_bits(1 + r.below(1000))),
         _ => (r.unit() * 0.1, 1.0 + r.unit() * 9.0),
     };
     (low, if low < high { high } else { f64::from_bits(low.abs().to_bits() + 1) })
@@ -140,7 +143,8 @@ fn random_polynomial(r: &mut Random) -> Shape {
 
 fn hashed(r: &mut Random) -> Shape {
     match r.below(5) {
-        0 | 1 => Shape::Few,
+        0 => Shape::Few,
+        1 => Shape::Ties,
         2 => Shape::Sized(-8, 8),
         3 => Shape::Sized(-300, 300),
         _ => Shape::Any,
@@ -154,10 +158,10 @@ fn on(r: &mut Random, kind: fn(&mut Random) -> Shape) -> (HagerZhang, Shape) {
 }
 
 fn split(r: &mut Random) -> (HagerZhang, Shape) {
-    let h = HagerZhang { f0: r.signed(-4, 4), s0: r.pick(&[-1.0, 1.0, 100.0, -0.001]), ..hager_zhang(r) };
+    let h = HagerZhang { f0: r.signed(-4, 4), s0: r.pick(&[-1.0, -0.001, 10.0, 100.0]), ..hager_zhang(r) };
     let at = h.min + (h.max - h.min) * r.unit();
-    let level = level(&h);
-    (h, Shape::Split { at, level })
+    let (low, level) = (h.min, level(&h));
+    (h, Shape::Split { low, at, level })
 }
 
 /// U3 halves its way to a window that may be very narrow, or closed.
@@ -282,10 +286,8 @@ fn spoiled(r: &mut Random, start: Start) -> Start {
     }
 }
 
-/// The nth search of a seed.
-pub fn search(seed: u64, nth: u64) -> Search {
-    let start = Random::new(seed ^ nth.rotate_left(32)).word();
-    let r = &mut Random::new(start);
+/// A search whose kind goes by its number.
+pub fn search(r: &mut Random, nth: u64) -> Search {
     let hz = |(h, shape): (HagerZhang, Shape)| (Start::HagerZhang(h), shape);
     let bt = |(b, shape): (Backtracking, Shape)| (Start::Backtracking(b), shape);
     let salt = r.word();
@@ -322,9 +324,9 @@ pub fn search(seed: u64, nth: u64) -> Search {
         "armijo" | "goldstein" if r.one_in(4) => damage = Damage::Slopes,
         _ => {}
     }
-    let most = match r.below(1000) {
-        0 => 40000,
-        1..=50 => 1200,
+    let most = match (r.below(1000), kind) {
+        (0, _) => 40000,
+        (1..=20, _) | (_, "deep-U3") => 1200,
         _ => 60,
     };
     Search { kind, start, model: Model { shape, damage, salt }, most }

@@ -1,5 +1,5 @@
 // argmin's file, word for word, and a look at the private fields that it keeps its bracket and best in.
-include!("argmin_hagerzhang.rs");
+include!("../../../argmin/src/solver/linesearch/hagerzhang.rs");
 
 impl<P, G, F: Copy> HagerZhangLineSearch<P, G, F> {
     /// The bracket's low and high end and the best point, each (step, cost, slope).
