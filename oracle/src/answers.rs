@@ -11,6 +11,8 @@ pub enum Shape {
     Few,
     /// Few costs, and slopes that differ.
     Ties,
+    /// Few costs, and small whole slopes.
+    Whole,
     /// Numbers with exponents of two in a range.
     Sized(i32, i32),
     /// Any finite bits.
@@ -19,8 +21,9 @@ pub enum Shape {
     Split { low: f64, at: f64, level: f64 },
     /// Rising slopes in a window alone and from `end` on; low costs below the window, costs above L behind it.
     Window { low: f64, high: f64, end: f64, level: f64 },
-    /// Costs and slopes on the very edge of the conditions and the verdict, or a float beside it.
-    Edge { f0: f64, s0: f64, c1: f64, c2: f64, level: f64 },
+    /// Costs and slopes on the edge of Goldstein's condition, or of the others and the verdict, or a float beside it; also
+    /// on edges that another grouping of the products would have.
+    Edge { goldstein: bool, f0: f64, s0: f64, c1: f64, c2: f64, level: f64 },
 }
 
 /// What is wrong with the answers.
@@ -58,6 +61,7 @@ impl Shape {
             Shape::Polynomial(ref c) => polynomial(c, x),
             Shape::Few => (r.pick(&FEW), r.pick(&FEW)),
             Shape::Ties => (r.pick(&FEW), r.signed(-4, 4)),
+            Shape::Whole => (r.pick(&FEW), r.pick(&[-3.0, -2.0, -1.0, 1.0, 2.0, 3.0])),
             Shape::Sized(low, high) => (r.signed(low, high), r.signed(low, high)),
             Shape::Any => (r.finite(), r.finite()),
             Shape::Split { low, at, level } => {
@@ -82,15 +86,10 @@ impl Shape {
                     (level + size, g)
                 }
             }
-            Shape::Edge { f0, s0, c1, c2, level } => {
-                let costs = [
-                    f0 + (c1 * x) * s0,
-                    f0 + c1 * (x * s0),
-                    f0 + (1.0 - c1) * (x * s0),
-                    f0 + ((1.0 - c1) * x) * s0,
-                    level,
-                ];
-                let slopes = [c2 * s0, -(c2 * s0), (2.0 * c1 - 1.0) * s0, 0.0, -0.0];
+            Shape::Edge { goldstein, f0, s0, c1, c2, level } => {
+                let c = if goldstein && r.one_in(2) { 1.0 - c1 } else { c1 };
+                let costs = [f0 + (c * x) * s0, f0 + c * (x * s0), if goldstein { f0 } else { level }];
+                let slopes = [c2 * s0, -(c2 * s0), (2.0 * c1 - 1.0) * s0, 2.0 * c1 * s0 - s0, r.pick(&[0.0, -0.0])];
                 let (f, g) = (r.pick(&costs), r.pick(&slopes));
                 (r.near(f), r.near(g))
             }

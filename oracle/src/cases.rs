@@ -135,16 +135,16 @@ fn expected(start: &Start, run: &Run, answers: usize) -> String {
 
 /// The three files: what `cases` reads, what it is to print, and for each case its kind and where its bytes stand.
 pub struct Files<W> {
-    pub cases: W,
-    pub expected: W,
-    pub kinds: W,
-    pub count: u64,
+    cases: W,
+    expected: W,
+    kinds: W,
     offset: usize,
+    pub count: u64,
 }
 
 impl<W: Write> Files<W> {
     pub fn new(cases: W, expected: W, kinds: W) -> Self {
-        Files { cases, expected, kinds, count: 0, offset: 0 }
+        Files { cases, expected, kinds, offset: 0, count: 0 }
     }
 
     /// One case: the run's first answers, and `more` that come after its end.
@@ -156,5 +156,11 @@ impl<W: Write> Files<W> {
         writeln!(self.kinds, "{kind} {} {}", self.offset, bytes.len())?;
         self.offset += bytes.len();
         Ok(())
+    }
+
+    pub fn flush(&mut self) -> io::Result<()> {
+        self.cases.flush()?;
+        self.expected.flush()?;
+        self.kinds.flush()
     }
 }

@@ -13,7 +13,7 @@ use crate::solver::linesearch::{BacktrackingLineSearch, HagerZhangLineSearch};
 use crate::{ArgminDot, ArgminScaledAdd};
 
 /// So many evaluations past a refusal, and the run is broken off: most of these loop for ever in U3.
-const PATIENCE: u32 = 2000;
+pub const PATIENCE: u32 = 2000;
 
 pub type Point = (f64, f64, f64);
 
@@ -22,6 +22,17 @@ pub enum End {
     Limit(f64),
     Refused(u32),
     Waiting,
+}
+
+impl End {
+    pub fn word(&self) -> String {
+        match self {
+            End::Stop(_) => "STOP".to_string(),
+            End::Limit(_) => "LIMIT".to_string(),
+            End::Refused(number) => format!("REFUSED {number}"),
+            End::Waiting => "waiting".to_string(),
+        }
+    }
 }
 
 /// What argmin holds after its start or after an iteration, and how many answers it had by then.

@@ -2,7 +2,7 @@
 //! read and to print.
 //!
 //! usage: oracle random SEED COUNT FOLDER    at least COUNT cases
-//!        oracle list SEED COUNT FOLDER      a short list: few answers a case, and no way through the rules twice
+//!        oracle list SEED COUNT FOLDER      a short list: of COUNT searches those that go a new way, with few answers
 //!
 //! FOLDER gets the files list.cases, list.expected and list.kinds.
 
@@ -25,34 +25,64 @@ mod solver {
 }
 
 use cases::Files;
-use drive::{End, Past, Run, RULES};
+use drive::{End, Past, Run, PATIENCE, RULES};
 use make::Search;
 use random::{Random, BAD};
 use std::collections::{BTreeMap, HashSet};
 use std::fs::File;
-use std::io::{self, BufWriter, Write};
+use std::io::{self, BufWriter};
 use std::path::Path;
 
-/// A listed case has no more answers than this.
+/// Of the list: the most answers a case has, and of these one whose start is spoiled; and the most cases of a kind, spoiled
+/// starts aside.
 const SHORT: usize = 10;
+const SPOILED: usize = 4;
+const SHARE: u32 = 130;
 
-/// The whole search, now and then with answers past its end; for some the answers up to each finished iteration, and up to
-/// any answer.
-fn write_random(files: &mut Files<impl Write>, r: &mut Random, search: &Search, run: &Run) -> io::Result<()> {
-    let Search { kind, start, .. } = search;
-    let all = run.answers.len();
-    if r.one_in(4) {
-        for mark in run.marks.iter().filter(|m| m.answers < all).take(16) {
-            files.case(kind, start, run, mark.answers, &[])?;
-        }
-    }
-    if all > 0 && r.one_in(8) {
-        files.case(kind, start, run, r.below(all as u64) as usize, &[])?;
-    }
-    files.case(kind, start, run, all, &more(r, run))
+/// The files, and what is counted on the way.
+struct Made {
+    files: Files<BufWriter<File>>,
+    searches: u64,
+    rules: BTreeMap<char, u64>,
+    past: [u64; 4],
 }
 
-/// Answers past the end.
+impl Made {
+    fn new(folder: &Path) -> io::Result<Made> {
+        let file = |name: &str| File::create(folder.join(name)).map(BufWriter::new);
+        let files = Files::new(file("list.cases")?, file("list.expected")?, file("list.kinds")?);
+        Ok(Made { files, searches: 0, rules: BTreeMap::new(), past: [0; 4] })
+    }
+
+    fn count(&mut self, run: &Run) {
+        self.searches += 1;
+        for rule in run.rules.chars() {
+            *self.rules.entry(rule).or_insert(0) += 1;
+        }
+        if let Some(past) = run.past {
+            self.past[past as usize] += 1;
+        }
+    }
+
+    fn finish(mut self, seed: u64) -> io::Result<()> {
+        self.files.flush()?;
+        println!("seed {seed}: {} searches, {} cases", self.searches, self.files.count);
+        let used: Vec<String> = RULES.iter().map(|(c, name)| format!("{name}: {}", self.rules.get(c).unwrap_or(&0))).collect();
+        println!("rules used: {}", used.join("; "));
+        let past = |p: Past| self.past[p as usize];
+        println!(
+            "past a refusal, argmin stopped: {}; came to its limit: {}; met its unreachable point: {}; did not end in {PATIENCE} evaluations: {}",
+            past(Past::Stopped), past(Past::AtLimit), past(Past::Unreachable), past(Past::BrokenOff),
+        );
+        Ok(())
+    }
+}
+
+fn random_of(seed: u64, nth: u64) -> Random {
+    Random::new(seed ^ nth.rotate_left(32))
+}
+
+/// Answers past the end of some searches.
 fn more(r: &mut Random, run: &Run) -> Vec<(f64, f64)> {
     match run.end {
         End::Waiting => vec![],
@@ -61,77 +91,75 @@ fn more(r: &mut Random, run: &Run) -> Vec<(f64, f64)> {
     }
 }
 
-/// The way a run took: the same for two runs that met the same rules in the same order and ended alike.
-fn way(search: &Search, run: &Run) -> String {
-    let end = match run.end {
-        End::Stop(_) => "stop".to_string(),
-        End::Limit(_) => "limit".to_string(),
-        End::Refused(n) => format!("refused {n}"),
-        End::Waiting => "waiting".to_string(),
-    };
-    format!("{} {} {} {end}", search.kind, run.rules, run.answers.len())
+/// Whole searches; of some also the answers up to each finished iteration, and up to any answer.
+fn random(made: &mut Made, seed: u64, count: u64) -> io::Result<()> {
+    let mut nth = 0;
+    while made.files.count < count {
+        let r = &mut random_of(seed, nth);
+        let Search { kind, start, model, most, .. } = &make::search(r, nth);
+        let run = drive::run(start, model, *most);
+        let all = run.answers.len();
+        made.count(&run);
+        if r.one_in(4) {
+            for mark in run.marks.iter().filter(|m| m.answers < all).take(16) {
+                made.files.case(kind, start, &run, mark.answers, &[])?;
+            }
+        }
+        if all > 0 && r.one_in(8) {
+            made.files.case(kind, start, &run, r.below(all as u64) as usize, &[])?;
+        }
+        made.files.case(kind, start, &run, all, &more(r, &run))?;
+        nth += 1;
+    }
+    Ok(())
 }
 
-fn made(kind: &str, seed: u64, count: u64, folder: &Path) -> io::Result<()> {
-    let file = |name: &str| File::create(folder.join(name)).map(BufWriter::new);
-    let mut files = Files::new(file("list.cases")?, file("list.expected")?, file("list.kinds")?);
-    let mut rules = BTreeMap::new();
-    let mut past = [0; 4];
+/// Of so many searches those that meet the rules in a new order or end another way, starts that are spoiled in a new way, and
+/// any on an edge and of backtracking.
+fn list(made: &mut Made, seed: u64, tries: u64) -> io::Result<()> {
     let mut ways = HashSet::new();
     let mut taken = BTreeMap::new();
-    let mut searches = 0;
-    let mut nth = 0u64;
-    while files.count < count {
-        let r = &mut Random::new(seed ^ nth.rotate_left(32));
-        let mut search = make::search(r, nth);
-        nth += 1;
-        if kind == "list" {
-            search.most = SHORT;
-        }
-        let run = drive::run(&search.start, &search.model, search.most);
-        if kind == "list" {
-            let taken = taken.entry(search.kind).or_insert(0);
-            if *taken == count.div_ceil(make::KINDS) || !run.rules.is_empty() && !ways.insert(way(&search, &run)) {
-                continue;
-            }
+    for nth in 0..tries {
+        let r = &mut random_of(seed, nth);
+        let Search { kind, start, model, spoiled, .. } = &make::search(r, nth);
+        let run = drive::run(start, model, if spoiled.is_some() { SPOILED } else { SHORT });
+        let taken = taken.entry(*kind).or_insert(0);
+        let new = match spoiled {
+            Some(how) => ways.insert(format!("{how:?}")),
+            None if *taken == SHARE => false,
+            None if run.rules.is_empty() || *kind == "edge" => true,
+            None => ways.insert(format!("{kind} {} {} {}", run.rules, run.answers.len(), run.end.word())),
+        };
+        if new {
             *taken += 1;
-            files.case(search.kind, &search.start, &run, run.answers.len(), &more(r, &run))?;
-        } else {
-            write_random(&mut files, r, &search, &run)?;
-        }
-        searches += 1;
-        for rule in run.rules.chars() {
-            *rules.entry(rule).or_insert(0u64) += 1;
-        }
-        if let Some(p) = run.past {
-            past[p as usize] += 1;
+            made.count(&run);
+            made.files.case(kind, start, &run, run.answers.len(), &more(r, &run))?;
         }
     }
-    for file in [&mut files.cases, &mut files.expected, &mut files.kinds] {
-        file.flush()?;
-    }
-    println!("seed {seed}: {searches} searches, {} cases", files.count);
-    let used: Vec<String> = RULES.iter().map(|(c, name)| format!("{name} {}", rules.get(c).unwrap_or(&0))).collect();
-    println!("rules used: {}", used.join("; "));
-    println!(
-        "past a refusal of a running search argmin: stopped {}; came to its limit {}; met its unreachable point {}; did not end {}",
-        past[Past::Stopped as usize],
-        past[Past::AtLimit as usize],
-        past[Past::Unreachable as usize],
-        past[Past::BrokenOff as usize],
-    );
     Ok(())
 }
 
 fn main() {
     let arguments: Vec<String> = std::env::args().skip(1).collect();
     let number = |i: usize| arguments.get(i).and_then(|text| text.parse().ok());
-    let (Some(kind), Some(seed), Some(count), Some(folder)) = (arguments.first(), number(1), number(2), arguments.get(3)) else {
-        eprintln!("usage: oracle random|list SEED COUNT FOLDER");
-        std::process::exit(1);
+    let make = match arguments.first().map(String::as_str) {
+        Some("random") => random,
+        Some("list") => list,
+        _ => usage(),
     };
-    if let Err(error) = made(kind, seed, count, Path::new(folder)) {
+    let (Some(seed), Some(count), Some(folder)) = (number(1), number(2), arguments.get(3)) else { usage() };
+    let made = || -> io::Result<()> {
+        let mut made = Made::new(Path::new(folder))?;
+        make(&mut made, seed, count)?;
+        made.finish(seed)
+    };
+    if let Err(error) = made() {
         eprintln!("oracle: {error}");
         std::process::exit(1);
     }
+}
+
+fn usage() -> ! {
+    eprintln!("usage: oracle random|list SEED COUNT FOLDER");
+    std::process::exit(1);
 }

@@ -4,11 +4,10 @@ use crate::answers::{Damage, Model, Shape};
 use crate::cases::{Backtracking, Condition, HagerZhang, Start};
 use crate::random::{Random, BAD, TINY};
 
-/// How many kinds of search there are.
-pub const KINDS: u64 = 13;
-
 pub struct Search {
     pub kind: &'static str,
+    /// What was done to the start, where it was spoiled.
+    pub spoiled: Option<(u64, u64)>,
     pub start: Start,
     pub model: Model,
     pub most: usize,
@@ -40,8 +39,9 @@ fn bounds(r: &mut Random) -> (f64, f64) {
         4 | 5 => (r.pick(&[0.0, -0.0]), r.sized(-20, 20)),
         6 => (0.0, f64::from_bits(1 + r.below(1000))),
         7 => (r.sized(-1022, 1022), r.sized(1000, 1023)),
-        // narrower than EPS: S2 and S3 hold together
-        8 => (r.unit() * f64::EPSILON / 2.0, r.unit() * f64::EPSILON),
+        // narrower than EPS, where S2 and S3 hold together, and a few times as wide
+        8 if r.one_in(2) => (r.unit() * f64::EPSILON / 2.0, r.unit() * f64::EPSILON),
+        8 => (0.0, (1 + r.below(8)) as f64 * f64::EPSILON),
         // a few floats apart
         9 => {
             let low = r.sized(-5, 5);
@@ -68,6 +68,7 @@ fn between_zero_and_one(r: &mut Random, usual: f64) -> f64 {
     match r.below(8) {
         0..=2 => usual,
         3 => r.pick(&[TINY, BELOW_ONE, f64::EPSILON, 0.01, 0.99]),
+        4 => r.pick(&[0.25, 0.5, 0.75]),
         _ => r.unit(),
     }
 }
@@ -182,10 +183,26 @@ fn deep(r: &mut Random) -> (HagerZhang, Shape) {
     (h, Shape::Window { low, high, end, level })
 }
 
+/// A slope that is mostly negative.
+fn falling(r: &mut Random) -> f64 {
+    r.pick(&[-1.0, -1.0, -1.0, 1.0]) * r.sized(-3, 3)
+}
+
 fn edge(r: &mut Random) -> (HagerZhang, Shape) {
-    let h = HagerZhang { f0: r.signed(-3, 3), s0: r.signed(-3, 3), ..hager_zhang(r) };
+    let h = HagerZhang { f0: r.signed(-3, 3), s0: falling(r), ..hager_zhang(r) };
     let (f0, s0, c1, c2, level) = (h.f0, h.s0, h.delta, h.sigma, level(&h));
-    (h, Shape::Edge { f0, s0, c1, c2, level })
+    (h, Shape::Edge { goldstein: false, f0, s0, c1, c2, level })
+}
+
+/// Steps that are whole numbers of EPS, or of 1, and quarters: S2, S3 and L2 meet their bounds exactly.
+fn exact(r: &mut Random) -> (HagerZhang, Shape) {
+    let mut h = HagerZhang { f0: r.below(3) as f64, s0: r.pick(&[-1.0, 2.0, 4.0]), ..hager_zhang(r) };
+    let unit = r.pick(&[f64::EPSILON, 1.0]);
+    (h.min, h.max) = (r.below(2) as f64 * unit, (2 + r.below(7)) as f64 * unit);
+    h.step = r.below(10) as f64 * unit;
+    h.theta = r.pick(&[0.25, 0.5, 0.75]);
+    h.gamma = r.pick(&[0.25, 0.5, 0.75]);
+    (h, Shape::Whole)
 }
 
 /// Every parameter at or near an end of its range.
@@ -212,12 +229,14 @@ fn backtracking(r: &mut Random, condition: Condition) -> (Backtracking, Shape) {
         (1..=3, _) => 1e-4,
         _ => r.unit() * 0.99,
     };
-    let c2 = match r.below(4) {
-        0 => f64::from_bits(c1.to_bits() + 1),
-        1 => BELOW_ONE,
+    let c2 = match (r.below(4), condition) {
+        // not read
+        (0, Condition::Armijo | Condition::Goldstein) => r.pick(&BAD),
+        (0, _) => f64::from_bits(c1.to_bits() + 1),
+        (1, _) => BELOW_ONE,
         _ => c1 + (BELOW_ONE - c1) * r.unit(),
     };
-    let c2 = if c1 < c2 { c2 } else { BELOW_ONE };
+    let c2 = if c1 >= c2 { BELOW_ONE } else { c2 };
     let (f0, s0, shape) = match r.below(6) {
         n @ 0..=2 => {
             let shape = [curve, random_polynomial, hashed][n as usize](r);
@@ -225,8 +244,8 @@ fn backtracking(r: &mut Random, condition: Condition) -> (Backtracking, Shape) {
             (f0, s0, shape)
         }
         _ => {
-            let (f0, s0) = (r.signed(-3, 3), r.signed(-3, 3));
-            (f0, s0, Shape::Edge { f0, s0, c1, c2, level: f0 })
+            let (f0, s0) = (r.signed(-3, 3), falling(r));
+            (f0, s0, Shape::Edge { goldstein: condition == Condition::Goldstein, f0, s0, c1, c2, level: f0 })
         }
     };
     let b = Backtracking {
@@ -247,13 +266,15 @@ fn backtracking(r: &mut Random, condition: Condition) -> (Backtracking, Shape) {
     (b, shape)
 }
 
-/// One number of the start is not finite, or on or past an end of its range.
-fn spoiled(r: &mut Random, start: Start) -> Start {
-    let bad = if r.one_in(2) { r.pick(&BAD) } else { r.pick(&ENDS) };
-    let count = r.pick(&[0, 1000, 1001, 10000, 10001, u32::MAX]);
-    match start {
-        Start::HagerZhang(mut h) => {
-            match r.below(14) {
+/// One number of the start is not finite, or on or past an end of its range: which, and what stands there.
+fn spoil(r: &mut Random, start: &mut Start) -> (u64, u64) {
+    let which = r.below((ENDS.len() + BAD.len()) as u64);
+    let bad = [&ENDS[..], &BAD].concat()[which as usize];
+    let count = [0, 1, 1000, 1001, 10000, 10001, u32::MAX][which as usize % 7];
+    let at = match start {
+        Start::HagerZhang(h) => {
+            let at = r.below(16);
+            match at {
                 0 => h.delta = bad,
                 1 => h.sigma = bad,
                 2 => h.epsilon = bad,
@@ -267,59 +288,66 @@ fn spoiled(r: &mut Random, start: Start) -> Start {
                 10 => h.s0 = bad,
                 11 => h.budget = count,
                 12 => h.limit = count,
+                13 => h.sigma = f64::from_bits(h.delta.to_bits().wrapping_sub(1)),
+                14 => h.max = h.min,
                 _ => (h.epsilon, h.f0) = (r.sized(1000, 1023), r.signed(1, 60)),
             }
-            Start::HagerZhang(h)
+            at
         }
-        Start::Backtracking(mut b) => {
-            match r.below(7) {
+        Start::Backtracking(b) => {
+            let at = r.below(8);
+            match at {
                 0 => b.c1 = bad,
                 1 => b.c2 = bad,
                 2 => b.rho = bad,
                 3 => b.alpha = bad,
                 4 => b.f0 = bad,
                 5 => b.s0 = bad,
-                _ => b.limit = count,
+                6 => b.limit = count,
+                _ => b.c2 = b.c1,
             }
-            Start::Backtracking(b)
+            at + 16 * b.condition as u64
         }
-    }
+    };
+    (at, which)
 }
 
 /// A search whose kind goes by its number.
 pub fn search(r: &mut Random, nth: u64) -> Search {
     let hz = |(h, shape): (HagerZhang, Shape)| (Start::HagerZhang(h), shape);
     let bt = |(b, shape): (Backtracking, Shape)| (Start::Backtracking(b), shape);
-    let salt = r.word();
-    let mut damage = Damage::None;
-    let (kind, (mut start, shape)) = match nth % 20 {
+    let condition = r.pick(&[Condition::Armijo, Condition::Goldstein, Condition::Wolfe, Condition::StrongWolfe]);
+    let (kind, (mut start, shape)) = match nth % 23 {
         0..=2 => ("curve", hz(on(r, curve))),
         3..=5 => ("polynomial", hz(on(r, random_polynomial))),
         6..=8 => ("hash", hz(on(r, hashed))),
         9 | 10 => ("split", hz(split(r))),
         11 => ("deep-U3", hz(deep(r))),
-        12 => ("edge", hz(edge(r))),
-        13 => ("corner", hz(corner(r))),
-        14 => ("armijo", bt(backtracking(r, Condition::Armijo))),
-        15 => ("goldstein", bt(backtracking(r, Condition::Goldstein))),
-        16 => ("wolfe", bt(backtracking(r, Condition::Wolfe))),
-        17 => ("strong-wolfe", bt(backtracking(r, Condition::StrongWolfe))),
-        n => {
-            let made = match r.below(4) {
-                0 => {
-                    let any = [Condition::Armijo, Condition::Goldstein, Condition::Wolfe, Condition::StrongWolfe];
-                    let condition = r.pick(&any);
-                    bt(backtracking(r, condition))
-                }
-                1 => hz(split(r)),
-                2 => hz(deep(r)),
-                _ => hz(on(r, hashed)),
-            };
-            (if n == 18 { "bad-start" } else { "bad-answer" }, made)
-        }
+        12 | 13 => ("edge", hz(edge(r))),
+        14 => ("exact", hz(exact(r))),
+        15 => ("corner", hz(corner(r))),
+        16 => ("armijo", bt(backtracking(r, Condition::Armijo))),
+        17 => ("goldstein", bt(backtracking(r, Condition::Goldstein))),
+        18 => ("wolfe", bt(backtracking(r, Condition::Wolfe))),
+        19 => ("strong-wolfe", bt(backtracking(r, Condition::StrongWolfe))),
+        20 => ("bad-start", hz(on(r, hashed))),
+        21 => ("bad-start", bt(backtracking(r, condition))),
+        _ => match r.below(4) {
+            0 => ("bad-answer", bt(backtracking(r, condition))),
+            1 => ("bad-answer", hz(split(r))),
+            2 => ("bad-answer", hz(deep(r))),
+            _ => ("bad-answer", hz(on(r, hashed))),
+        },
     };
+    let mut spoiled = None;
+    let mut damage = Damage::None;
     match kind {
-        "bad-start" => start = spoiled(r, start),
+        "bad-start" => {
+            spoiled = Some(spoil(r, &mut start));
+            if r.one_in(2) {
+                spoil(r, &mut start);
+            }
+        }
         "bad-answer" => damage = r.pick(&[Damage::Cost, Damage::Slope])(r.below(14) as usize),
         "armijo" | "goldstein" if r.one_in(4) => damage = Damage::Slopes,
         _ => {}
@@ -329,5 +357,5 @@ pub fn search(r: &mut Random, nth: u64) -> Search {
         (1..=20, _) | (_, "deep-U3") => 1200,
         _ => 60,
     };
-    Search { kind, start, model: Model { shape, damage, salt }, most }
+    Search { kind, spoiled, start, model: Model { shape, damage, salt: r.word() }, most }
 }

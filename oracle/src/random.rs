@@ -69,7 +69,11 @@ impl Random {
 
     /// x, or the float just below or above it in its bits' order.
     pub fn near(&mut self, x: f64) -> f64 {
-        let y = f64::from_bits(self.pick(&[x.to_bits(), x.to_bits().wrapping_add(1), x.to_bits().saturating_sub(1)]));
+        let y = match self.below(4) {
+            0 => f64::from_bits(x.to_bits().wrapping_add(1)),
+            1 => f64::from_bits(x.to_bits().saturating_sub(1)),
+            _ => x,
+        };
         if y.is_finite() { y } else { x }
     }
 }
