@@ -1,4 +1,4 @@
-# Compares what the program cases printed with what is expected, case by case. A field * in the expected text is not compared.
+# Compares what the program cases printed with what is expected, case by case.
 # usage: awk -v expected=FILE -v got=FILE [-v kinds=FILE -v cases=FILE] -f compare.awk
 # kinds has a line for each case: its kind, and where in the file cases its bytes begin and how many they are.
 # Status: 0 where all agree, 1 otherwise.
@@ -20,24 +20,12 @@ function next_case(file, lines,    n, line) {
     return n
 }
 
-function alike(a, b,    i, n, x, y) {
-    if (a == b)
-        return 1
-    n = split(a, x, " ")
-    if (!index(a, "*") || split(b, y, " ") != n)
-        return 0
-    for (i = 1; i <= n; i++)
-        if (x[i] != "*" && x[i] != y[i])
-            return 0
-    return 1
-}
-
 function show(    i) {
     printf "disagreement in case %d%s (- expected, + printed)\n", total, kind ? ", " kind : ""
     if (kind)
         system("od -A n -v -t x1 -j " where[2] " -N " where[3] " '" cases "'")
     for (i = 1; i <= n || i <= m; i++)
-        if (i <= n && i <= m && alike(e[i], g[i]))
+        if (i <= n && i <= m && e[i] == g[i])
             print "  " g[i]
         else {
             if (i <= n)
@@ -65,7 +53,7 @@ BEGIN {
         agree = n == m
         refused = 0
         for (i = 1; i <= n; i++) {
-            if (agree && !alike(e[i], g[i]))
+            if (agree && e[i] != g[i])
                 agree = 0
             if (substr(e[i], 1, 4) == "ASK ")
                 asks++
@@ -76,7 +64,7 @@ BEGIN {
             } else if (substr(e[i], 1, 6) == "LIMIT ")
                 told["LIMIT"]++
             else if (substr(e[i], 1, 5) == "STOP ") {
-                split(g[i], word, " ")
+                split(e[i], word, " ")
                 told["STOP " word[2]]++
             }
         }

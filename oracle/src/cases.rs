@@ -102,21 +102,19 @@ fn hex(numbers: &[(f64, f64, f64)]) -> String {
     out
 }
 
-/// What `cases` is to print after CASE for the run's first answers and perhaps more. argmin does not tell Hager-Zhang's two
-/// verdicts apart: `*` stands for the word.
-fn expected(start: &Start, run: &Run, answers: usize) -> String {
+/// What `cases` is to print after CASE for the run's first answers, and for more after its end.
+fn expected(run: &Run, answers: usize) -> String {
     let mut out = String::new();
     let mark = run.marks.iter().rev().find(|m| m.answers <= answers);
     let evaluations = answers.min(run.accepted());
     let iterations = mark.map_or(0, |m| m.iterations);
     let counts = format!("evaluations {evaluations} iterations {iterations}");
-    let word = if let Start::Backtracking(_) = start { "met" } else { "*" };
     for line in 0..=answers {
         match run.asks.get(line) {
             Some(step) => writeln!(out, "ASK {:016X}", step.to_bits()),
             None if line > run.asks.len() => writeln!(out, "REFUSED 8"),
             None => match run.end {
-                End::Stop(step) => writeln!(out, "STOP {word} {:016X} {counts}", step.to_bits()),
+                End::Stop(word, step) => writeln!(out, "STOP {word} {:016X} {counts}", step.to_bits()),
                 End::Limit(step) => writeln!(out, "LIMIT {:016X} {counts}", step.to_bits()),
                 End::Refused(number) => writeln!(out, "REFUSED {number}"),
                 End::Waiting => unreachable!("a run that waits has asked once more than it was answered"),
@@ -152,7 +150,7 @@ impl<W: Write> Files<W> {
         self.count += 1;
         let bytes = input(start, &[&run.answers[..answers], more].concat());
         self.cases.write_all(&bytes)?;
-        write!(self.expected, "CASE {}\n{}", self.count, expected(start, run, answers + more.len()))?;
+        write!(self.expected, "CASE {}\n{}", self.count, expected(run, answers + more.len()))?;
         writeln!(self.kinds, "{kind} {} {}", self.offset, bytes.len())?;
         self.offset += bytes.len();
         Ok(())

@@ -18,7 +18,7 @@ pub const PATIENCE: u32 = 2000;
 pub type Point = (f64, f64, f64);
 
 pub enum End {
-    Stop(f64),
+    Stop(&'static str, f64),
     Limit(f64),
     Refused(u32),
     Waiting,
@@ -27,7 +27,7 @@ pub enum End {
 impl End {
     pub fn word(&self) -> String {
         match self {
-            End::Stop(_) => "STOP".to_string(),
+            End::Stop(..) => "STOP".to_string(),
             End::Limit(_) => "LIMIT".to_string(),
             End::Refused(number) => format!("REFUSED {number}"),
             End::Waiting => "waiting".to_string(),
@@ -326,15 +326,43 @@ impl Gradient for Plant<'_> {
 }
 
 type State = IterState<Place, Vector, (), (), (), f64>;
+type HagerZhangSolver = HagerZhangLineSearch<Place, Vector, f64>;
+type BacktrackingSolver<L> = BacktrackingLineSearch<Place, Vector, L, f64>;
 
-/// argmin's executor: init; then terminate, the iteration limit and next_iter in turn. `held` looks into the solver after the
-/// start and after each iteration.
-fn execute<'a, S: Solver<Plant<'a>, State>>(
-    mut solver: S,
-    plant: Plant<'a>,
-    (f0, s0, limit): (f64, f64, u32),
-    held: impl Fn(&S) -> Option<[Point; 3]>,
-) -> Run {
+/// What argmin does not tell of itself: the bracket and the best, and the verdict when it has terminated.
+trait Look {
+    fn held(&self) -> Option<[Point; 3]>;
+    fn verdict(&self, state: &State) -> &'static str;
+}
+
+impl Look for HagerZhangSolver {
+    fn held(&self) -> Option<[Point; 3]> {
+        Some(HagerZhangSolver::held(self))
+    }
+
+    fn verdict(&self, state: &State) -> &'static str {
+        match Solver::<Plant, State>::terminate(&mut self.without_level(), state) {
+            TerminationStatus::Terminated(_) => "wolfe",
+            TerminationStatus::NotTerminated => "approximate",
+        }
+    }
+}
+
+impl<L> Look for BacktrackingSolver<L> {
+    fn held(&self) -> Option<[Point; 3]> {
+        None
+    }
+
+    fn verdict(&self, _state: &State) -> &'static str {
+        "met"
+    }
+}
+
+/// argmin's executor: init; then terminate, the iteration limit and next_iter in turn.
+fn execute<'a, S>(mut solver: S, plant: Plant<'a>, (f0, s0, limit): (f64, f64, u32)) -> Run
+where
+    S: Solver<Plant<'a>, State> + Look,
+{
     let mut problem = Problem(plant);
     let mut marks = Vec::new();
     let mut play = || -> Result<End, Error> {
@@ -343,7 +371,7 @@ fn execute<'a, S: Solver<Plant<'a>, State>>(
         loop {
             let plant = &mut problem.0;
             if plant.refused.is_none() {
-                let held = held(&solver);
+                let held = solver.held();
                 if let (Some(watch), Some(held)) = (&mut plant.watch, held) {
                     watch.finished(held, (plant.asks[2], plant.answers[2].0, plant.answers[2].1));
                 }
@@ -351,7 +379,7 @@ fn execute<'a, S: Solver<Plant<'a>, State>>(
             }
             let Some(Place::Step(x)) = state.param else { unreachable!("argmin leaves its step in the state") };
             if let TerminationStatus::Terminated(_) = solver.terminate(&state) {
-                return Ok(End::Stop(x));
+                return Ok(End::Stop(solver.verdict(&state), x));
             }
             if iterations >= limit {
                 return Ok(End::Limit(x));
@@ -368,7 +396,7 @@ fn execute<'a, S: Solver<Plant<'a>, State>>(
         (None, Err(error)) => unreachable!("{error:?} with nothing refused"),
         (Some(n), came) => {
             let past = match came {
-                Ok(End::Stop(_)) => Past::Stopped,
+                Ok(End::Stop(..)) => Past::Stopped,
                 Ok(_) => Past::AtLimit,
                 Err(Error::BrokenOff) => Past::BrokenOff,
                 Err(_) => Past::Unreachable,
@@ -384,7 +412,7 @@ fn hager_zhang(h: &HagerZhang, model: &Model, most: usize) -> Run {
     if !h.floats().iter().all(|x| x.is_finite()) {
         return Run::refused_at_start(2);
     }
-    let made = || -> Result<HagerZhangLineSearch<Place, Vector, f64>, Error> {
+    let made = || -> Result<HagerZhangSolver, Error> {
         let mut solver = HagerZhangLineSearch::new()
             .with_delta_sigma(h.delta, h.sigma)?
             .with_epsilon(h.epsilon)?
@@ -404,7 +432,7 @@ fn hager_zhang(h: &HagerZhang, model: &Model, most: usize) -> Run {
     if !watch.level.is_finite() || !(h.epsilon * h.f0.abs()).is_finite() {
         return Run::refused_at_start(4);
     }
-    execute(solver, plant(model, true, most, Some(watch)), (h.f0, h.s0, h.limit), |s| Some(s.held()))
+    execute(solver, plant(model, true, most, Some(watch)), (h.f0, h.s0, h.limit))
 }
 
 fn plant(model: &Model, slope_read: bool, most: usize, watch: Option<Watch>) -> Plant<'_> {
@@ -419,7 +447,7 @@ where
     if ![b.c1, c2, b.rho, b.alpha, b.f0, b.s0].iter().all(|x| x.is_finite()) {
         return Run::refused_at_start(2);
     }
-    let made = || -> Result<BacktrackingLineSearch<Place, Vector, L, f64>, Error> {
+    let made = || -> Result<BacktrackingSolver<L>, Error> {
         let mut solver = BacktrackingLineSearch::new(condition?).rho(b.rho)?;
         solver.initial_step_length(b.alpha)?;
         solver.search_direction(Vector::Direction);
@@ -429,7 +457,7 @@ where
     if !(1..=10000).contains(&b.limit) {
         return Run::refused_at_start(3);
     }
-    execute(solver, plant(model, b.slope_read(), most, None), (b.f0, b.s0, b.limit), |_| None)
+    execute(solver, plant(model, b.slope_read(), most, None), (b.f0, b.s0, b.limit))
 }
 
 /// Runs a search on a model's answers, at most so many.
