@@ -4,7 +4,6 @@ use crate::drive::{End, Mark, Run};
 use std::fmt::Write as _;
 use std::io::{self, Write};
 
-#[derive(Clone)]
 pub struct HagerZhang {
     pub delta: f64,
     pub sigma: f64,
@@ -38,7 +37,6 @@ pub enum Condition {
     StrongWolfe = 4,
 }
 
-#[derive(Clone)]
 pub struct Backtracking {
     pub condition: Condition,
     pub c1: f64,

@@ -19,24 +19,27 @@ mod drive;
 mod make;
 mod math;
 mod random;
+mod watch;
 #[allow(dead_code, unused_imports, unexpected_cfgs)]
 mod solver {
     pub mod linesearch;
 }
 
 use cases::Files;
-use drive::{End, Past, Run, PATIENCE, RULES};
+use drive::{End, Past, Run, PATIENCE};
 use make::Search;
 use random::{Random, BAD};
 use std::collections::{BTreeMap, HashSet};
 use std::fs::File;
 use std::io::{self, BufWriter};
 use std::path::Path;
+use watch::RULES;
 
-/// Of the list: the most answers a case has, and of these one whose start is spoiled; and the most cases of a kind, spoiled
-/// starts aside.
+/// The most answers that a case of the list has, and one with a spoiled start.
 const SHORT: usize = 10;
 const SPOILED: usize = 4;
+
+/// The most cases of a kind in the list, spoiled starts aside.
 const SHARE: u32 = 130;
 
 /// The files, and what is counted on the way.
