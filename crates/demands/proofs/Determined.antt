@@ -1,6 +1,7 @@
 -- 01, "How tight the contracts are": "any two results it allows are proved identical". One law for all: a result is determined where it can be read back from what
--- the contract says of it. Most contracts say the result itself (`r ≡ ..`), and then the law is `of-equation`; those that say what is told of it, and the buffer
--- that `point` is lent, are the fields of `Determined`. No exception is known. Assumes nothing.
+-- the contract says of it. Most contracts say the result itself (`r ≡ ..`), and then the law is `of-equation`, as for the searches here; those that say what is told of
+-- it, and the buffer that `point` is lent, are the other fields of `Determined`. (`wire::from` hands out a part of what it is lent, and its contract says all that can
+-- be read there; docs/PROOFS.md lists it.) Assumes nothing.
 use mathlib.Core.Path.{_≡_, sym, ap, _∙_}
 use mathlib.Core.List.{List}
 use Prim.Native.Nat.{ℕ}
@@ -19,6 +20,16 @@ use Rattle.conditions.specs.declared.Checked.{Checked}
 use Rattle.conditions.specs.Conditions.{checkedOf}
 use Rattle.conditions.specs.Told.{checkedTold}
 use Rattle.conditions.proofs.Determined.{checked-determined}
+use Rattle.backtracking.specs.declared.Setup.{Setup as Trials}
+use Rattle.backtracking.specs.declared.Backtracking.{Backtracking}
+use Rattle.backtracking.specs.declared.Step.{Step as Trials·Step}
+use Rattle.backtracking.specs.declared.Started.{Started as Trials·Started}
+use Rattle.backtracking.specs.Machine as trials
+use Rattle.rules.specs.declared.Options.{Options}
+use Rattle.hagerzhang.specs.declared.Search.{Search}
+use Rattle.hagerzhang.specs.declared.Step.{Step}
+use Rattle.hagerzhang.specs.declared.Started.{Started}
+use Rattle.hagerzhang.specs.Machine.{startOf, answerOf}
 use Rattle.curves.specs.declared.Known.{Known}
 use Rattle.curves.specs.Curves.{numberedOf}
 use Rattle.curves.specs.Told.{curveTold}
@@ -50,6 +61,11 @@ pub record Determined : Type 0 where
       → PointSaid x0 alpha d held r now → PointSaid x0 alpha d held q later → (r ≡ q) × (now ≡ later)
   pub checked : (C : Condition) (r q : Checked) → checkedTold r ≡ checkedOf C → checkedTold q ≡ checkedOf C → r ≡ q
   pub numbered : (n : ℕ) (r q : Known) → curveTold r ≡ numberedOf n → curveTold q ≡ numberedOf n → r ≡ q
+  -- next state and outcome of the searches
+  pub trials-start : (s : Trials) (r q : Trials·Started) → r ≡ trials.startOf s → q ≡ trials.startOf s → r ≡ q
+  pub trials-answer : (b : Backtracking) (f g : Float) (r q : Trials·Step) → r ≡ trials.answerOf b f g → q ≡ trials.answerOf b f g → r ≡ q
+  pub start : (o : Options) (f0 s0 : Float) (r q : Started) → r ≡ startOf o f0 s0 → q ≡ startOf o f0 s0 → r ≡ q
+  pub answer : (s : Search) (f g : Float) (r q : Step) → r ≡ answerOf s f g → q ≡ answerOf s f g → r ≡ q
   -- what is told of an outcome, by which the rules speak of it
   pub outcome : (t : Told) (r q : Outcome) → told r ≡ t → told q ≡ t → r ≡ q
 
@@ -59,5 +75,9 @@ all-determined = record {
   point = same-point;
   checked = λ C. law checkedTold checked-determined (checkedOf C);
   numbered = λ n. law curveTold numbered-determined (numberedOf n);
+  trials-start = λ s. of-equation (trials.startOf s);
+  trials-answer = λ b f g. of-equation (trials.answerOf b f g);
+  start = λ o f0 s0. of-equation (startOf o f0 s0);
+  answer = λ s f g. of-equation (answerOf s f g);
   outcome = law told told-determined;
 }

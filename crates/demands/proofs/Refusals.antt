@@ -3,9 +3,9 @@
 -- (outcomes/proofs/Refusals.antt has it as two sentences). Assumes nothing.
 use mathlib.Core.Path.{_≡_, refl, sym, ap, _∙_}
 use mathlib.Core.Bool.{Bool, true, false, cond, not, _&&_, _||_, false≢true}
-use mathlib.Core.List.{List, [], _∷_}
-use mathlib.Core.Option.{Option, none, some, Option·none-ne-some}
-use Prim.Native.Nat.{ℕ, zero, suc}
+use mathlib.Core.List.{List}
+use mathlib.Core.Option.{Option, none, some, Option·none-ne-some, Option·some-injective}
+use Prim.Native.Nat.{ℕ, zero, suc, _-_, _*_}
 use native.Mathlib.Nat.{suc-ne-zero}
 use native.Mathlib.Omega.{arith}
 use lib.Dec.{leb, ltb, eqb}
@@ -15,7 +15,10 @@ use lib.Ieee.{Float}
 use lib.Ieee.Scale.{finite}
 use Rattle.floats.specs.Arithmetic.{_⊗_}
 use Rattle.numbers.specs.Answers.{Answer, value, refused, unless_refuse_else_}
+use Rattle.numbers.specs.declared.PointResult.{PointResult}
 use Rattle.numbers.specs.Numbers.{sized, allFinite, products, leftSum, dotOf, moved, pointOf, heldAfter}
+use Rattle.numbers.specs.Told.{pointTold}
+use Rattle.curves.specs.Curves.{curveAt, numberedOf}
 use Rattle.outcomes.specs.Refusals.{given, inOrder, Table, refusalIn}
 use Rattle.conditions.specs.declared.Condition.{Condition}
 use Rattle.conditions.specs.Conditions as conditions
@@ -39,13 +42,17 @@ use Rattle.hagerzhang.specs.declared.Search.{Search}
 use Rattle.hagerzhang.specs.Machine as machine
 use Rattle.hagerzhang.specs.Meaning as searches
 use Rattle.hagerzhang.specs.Refusals.{startRows}
-use Rattle.hagerzhang.proofs.Refusals.{start-refused, Answered, answer-table}
-use Rattle.demands.specs.Refusals.{badLength, dotRows, pointRows, conditionRows, trialsStartRows, triedOut, nextTrial, trialDue, notFinite, trialsRows, trialsKept}
+use Rattle.hagerzhang.proofs.Refusals.{start-refused, start-none, Answered, answer-table}
+use Rattle.demands.proofs.Determined.{PointSaid}
+use Rattle.demands.specs.Refusals.{badLength, dotRows, pointRows, conditionRows, curveRows, trialsStartRows, triedOut, nextTrial, trialDue, notFinite, trialsRows, trialsKept}
 
 -- ---- an answer that is a value or a refusal
 abbrev pub refusedBy : {A : Type 0} → Answer A → Option ℕ
 refusedBy (value a) = none
 refusedBy (refused n) = some n
+
+none-refused : {A : Type 0} (m : ℕ) → _≡_ {A = Option ℕ} none (some m) → A
+none-refused m e = absurd (Option·none-ne-some m e)
 
 three : {A : Type 0} (a b c : Bool) (v : A) → refusedBy (unless a refuse 1 else unless b refuse 2 else unless c refuse 4 else value v) ≡ cond (not a) (some 1) (cond (not b) (some 2) (cond (not c) (some 4) none))
 three true true true v = refl
@@ -100,6 +107,15 @@ condition-refused : (C : Condition) → refusedBy (conditions.checkedOf C) ≡ g
 unfolding given
 condition-refused C = two (conditions.constantsFinite C) (conditions.inRange C) C
 
+in-range : {A : Type 0} (p q : Bool) (v : A) → refusedBy (unless (p && q) refuse 3 else value v) ≡ cond (not p || not q) (some 3) none
+in-range true true v = refl
+in-range true false v = refl
+in-range false q v = refl
+
+curve-refused : (n : ℕ) → refusedBy (numberedOf n) ≡ given (curveRows n)
+unfolding given
+curve-refused n = rw (is-zero n, above n 8) (in-range (leb 1 n) (leb n 8) (curveAt ((n - 1) * 5)))
+
 -- ---- backtracking
 trials-starts : (s : Trials) (a b : Bool)
     → refusalIn (trials.startSays (cond a (cond b (Began (madeOf s (evaluations 0) (iterations 0) First (Ask (s .alpha)))) (NoSearch OutOfRange)) (NoSearch SuppliedNotFinite)))
@@ -107,6 +123,14 @@ trials-starts : (s : Trials) (a b : Bool)
 trials-starts s true true = refl
 trials-starts s true false = refl
 trials-starts s false b = refl
+
+-- "no search": where a start is refused, there is none
+trials-none : (s : Trials) (a b : Bool) (n : ℕ)
+    → refusalIn (trials.startSays (cond a (cond b (Began (madeOf s (evaluations 0) (iterations 0) First (Ask (s .alpha)))) (NoSearch OutOfRange)) (NoSearch SuppliedNotFinite))) ≡ some n
+    → trials.startTold (cond a (cond b (Began (madeOf s (evaluations 0) (iterations 0) First (Ask (s .alpha)))) (NoSearch OutOfRange)) (NoSearch SuppliedNotFinite)) ≡ refused n
+trials-none s true true n e = none-refused n e
+trials-none s true false n e = ap refused (Option·some-injective 3 n e)
+trials-none s false b n e = ap refused (Option·some-injective 2 n e)
 
 trials-start-refused : (s : Trials) → refusalIn (trials.startSays (startOf s)) ≡ given (trialsStartRows s)
 unfolding given
@@ -120,9 +144,8 @@ pub record Tried (b : Backtracking) (f g : Float) (r : Step) : Type 0 where
   -- 2, 5: "search over", with the iterations "from before that trial"
   pub over : (n : ℕ) → refusalIn (told (r .outcome)) ≡ some n → triedOut (r .search .stage) ≡ true
   pub keeps : (n : ℕ) → refusalIn (told (r .outcome)) ≡ some n → r .search .iterations .0 ≡ trialsKept b (b .stage) f g
-
-none-refused : {A : Type 0} (m : ℕ) → _≡_ {A = Option ℕ} none (some m) → A
-none-refused m e = absurd (Option·none-ne-some m e)
+  -- "Evaluations count every finite answer accepted"
+  pub counts : r .search .evaluations .0 ≡ cond (triedOut (b .stage)) (b .evaluations .0) (cond (conditions.answerFinite (b .setup .condition) f g) (counted (b .evaluations .0)) (b .evaluations .0))
 
 either-way : (b : Bool) (n : ℕ) → n ≡ cond b n n
 either-way true n = refl
@@ -157,12 +180,12 @@ module _ (b : Backtracking) (f g : Float) (stage : Trying) (w : b .stage ≡ sta
       (cond x (madeOf s m now (Later (t ⊗ s .rho)) (Ask (t ⊗ s .rho))) (madeOf s m now TriedOut (Refused StepNotFinite)))))
       (madeOf s (b .evaluations) (b .iterations) TriedOut (Refused SuppliedNotFinite)))
   unfolding inOrder
-  tries false h l x ea eh el ex = record { refused-by = record { exactly = rw (rows, ea); ordered = refl }; unchanged = not-over; over = λ n q. refl; keeps = λ n q. kept-if false ea }
-  tries true true l x ea eh el ex = record { refused-by = record { exactly = rw (rows, ea, eh); ordered = refl }; unchanged = not-over; over = λ n q. refl; keeps = λ n q. none-refused n q }
-  tries true false true x ea eh el ex = record { refused-by = record { exactly = rw (rows, ea, eh, el); ordered = refl }; unchanged = not-over; over = λ n q. refl; keeps = λ n q. none-refused n q }
+  tries false h l x ea eh el ex = record { refused-by = record { exactly = rw (rows, ea); ordered = refl }; unchanged = not-over; over = λ n q. refl; keeps = λ n q. kept-if false ea; counts = rw (runs, ea) }
+  tries true true l x ea eh el ex = record { refused-by = record { exactly = rw (rows, ea, eh); ordered = refl }; unchanged = not-over; over = λ n q. refl; keeps = λ n q. none-refused n q; counts = rw (runs, ea) }
+  tries true false true x ea eh el ex = record { refused-by = record { exactly = rw (rows, ea, eh, el); ordered = refl }; unchanged = not-over; over = λ n q. refl; keeps = λ n q. none-refused n q; counts = rw (runs, ea) }
   tries true false false true ea eh el ex =
-      record { refused-by = record { exactly = rw (rows, ea, eh, el, ex); ordered = refl }; unchanged = not-over; over = λ n q. none-refused n q; keeps = λ n q. none-refused n q }
-  tries true false false false ea eh el ex = record { refused-by = record { exactly = rw (rows, ea, eh, el, ex); ordered = refl }; unchanged = not-over; over = λ n q. refl; keeps = λ n q. kept-if true ea }
+      record { refused-by = record { exactly = rw (rows, ea, eh, el, ex); ordered = refl }; unchanged = not-over; over = λ n q. none-refused n q; keeps = λ n q. none-refused n q; counts = rw (runs, ea) }
+  tries true false false false ea eh el ex = record { refused-by = record { exactly = rw (rows, ea, eh, el, ex); ordered = refl }; unchanged = not-over; over = λ n q. refl; keeps = λ n q. kept-if true ea; counts = rw (runs, ea) }
 
   tried : Tried b f g (triedOf s (b .evaluations) (b .iterations) now t f g)
   unfolding triedOf
@@ -173,18 +196,27 @@ trials-answered : (b : Backtracking) (f g : Float) (stage : Trying) → b .stage
 unfolding answerBy given inOrder
 trials-answered b f g First w = tried b f g First w refl (b .iterations) (b .setup .alpha) refl (either-way (conditions.answerFinite (b .setup .condition) f g) (b .iterations .0))
 trials-answered b f g (Later t) w = tried b f g (Later t) w refl (iterations (counted (b .iterations .0))) t refl refl
-trials-answered b f g TriedOut w = record { refused-by = record { exactly = rw w; ordered = refl }; unchanged = λ q. refl; over = λ n q. rw w; keeps = λ n q. rw w }
+trials-answered b f g TriedOut w = record { refused-by = record { exactly = rw w; ordered = refl }; unchanged = λ q. refl; over = λ n q. rw w; keeps = λ n q. rw w; counts = rw w }
+
+-- "buffers untouched": what `point` is lent holds at exit what it held
+untouched : (a : Answer (List Float)) (held : List Float) (n : ℕ) → refusedBy a ≡ some n → heldAfter a held ≡ held
+untouched (value p) held n e = none-refused n e
+untouched (refused m) held n e = refl
 
 -- ---- every call, in one place
 pub record EveryCall : Type 0 where
-  -- 1, 2, 4: "buffers untouched"
+  -- 1, 2, 4, and "buffers untouched"
   pub dot : (a b : List Float) → Table (refusedBy (dotOf a b)) (dotRows a b)
   pub point : (x0 : List Float) (alpha : Float) (d : List Float) (m : ℕ) → Table (refusedBy (pointOf x0 alpha d m)) (pointRows x0 alpha d m)
-  pub point-leaves : (n : ℕ) (held : List Float) → heldAfter (refused n) held ≡ held
-  -- 2, 3, 4: "no search"
+  pub point-leaves : (x0 : List Float) (alpha : Float) (d held : List Float) (r : PointResult) (now : List Float) (n : ℕ)
+      → PointSaid x0 alpha d held r now → refusedBy (pointTold r now) ≡ some n → now ≡ held
+  -- 2, 3, 4, and "no search"
   pub condition : (C : Condition) → Table (refusedBy (conditions.checkedOf C)) (conditionRows C)
+  pub curve : (n : ℕ) → Table (refusedBy (numberedOf n)) (curveRows n)
   pub trials-start : (s : Trials) → Table (refusalIn (trials.startSays (startOf s))) (trialsStartRows s)
+  pub trials-none : (s : Trials) (n : ℕ) → refusalIn (trials.startSays (startOf s)) ≡ some n → trials.startTold (startOf s) ≡ refused n
   pub start : (o : Options) (f0 s0 : Float) → Table (refusalIn (searches.startSays (machine.startOf o f0 s0))) (startRows o f0 s0)
+  pub start-none : (o : Options) (f0 s0 : Float) (n : ℕ) → refusalIn (searches.startSays (machine.startOf o f0 s0)) ≡ some n → searches.startTold (machine.startOf o f0 s0) ≡ refused n
   -- 8, 2, 6, 5, 7, and what they leave
   pub trials-answer : (b : Backtracking) (f g : Float) → Tried b f g (answerOf b f g)
   pub answer : (s : Search) (f g : Float) → Answered s f g (machine.answerOf s f g)
@@ -194,10 +226,13 @@ unfolding inOrder
 every-call = record {
   dot = λ a b. record { exactly = dot-refused a b; ordered = refl };
   point = λ x0 alpha d m. record { exactly = point-refused x0 alpha d m; ordered = refl };
-  point-leaves = λ n held. refl;
+  point-leaves = λ x0 alpha d held r now n said e. said .1 ∙ untouched (pointOf x0 alpha d (length held)) held n (sym (ap refusedBy (said .0)) ∙ e);
   condition = λ C. record { exactly = condition-refused C; ordered = refl };
+  curve = λ n. record { exactly = curve-refused n; ordered = refl };
   trials-start = λ s. record { exactly = trials-start-refused s; ordered = refl };
+  trials-none = λ s. trials-none s (backtracking.suppliedFinite s) (backtracking.inRanges s);
   start = start-refused;
+  start-none = start-none;
   trials-answer = λ b f g. trials-answered b f g (b .stage) refl;
   answer = answer-table;
 }

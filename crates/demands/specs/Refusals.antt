@@ -1,4 +1,4 @@
--- 01's table of refusals for the vector routines, the conditions and backtracking: for each function that can refuse, the rows that concern it, each with its "given
+-- 01's table of refusals for the vector routines, the conditions, the curves and backtracking: for each function that can refuse, the rows that concern it, each with its "given
 -- exactly when", in 01's order. (Hager-Zhang's stand in hagerzhang/specs/Refusals.antt.) proofs/Refusals.antt shows that the functions refuse by exactly these.
 use Prim.Native.Nat.{ℕ}
 use mathlib.Core.Bool.{Bool, true, false, cond, not, _&&_, _||_}
@@ -40,10 +40,14 @@ pointRows x0 alpha d m =
     ∷ (4, not (allFinite (moved x0 alpha d)))
     ∷ []
 
--- ---- a condition's constants, and the start of backtracking: "a parameter, .. N .. is outside its range"
+-- ---- a condition's constants, a curve's number, and the start of backtracking: "a parameter, B, N or curve number is outside its range"
 
 abbrev pub conditionRows : Condition → List Row
 conditionRows C = (2, not (conditions.constantsFinite C)) ∷ (3, not (conditions.inRange C)) ∷ []
+
+-- the curves have the numbers 1 to 8
+abbrev pub curveRows : ℕ → List Row
+curveRows n = (3, eqb n 0 || ltb 8 n) ∷ []
 
 abbrev pub trialsStartRows : Trials → List Row
 trialsStartRows s = (2, not (backtracking.suppliedFinite s)) ∷ (3, not (backtracking.inRanges s)) ∷ []

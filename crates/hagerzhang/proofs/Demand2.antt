@@ -2,7 +2,7 @@
 -- iterations it holds after them, are those of 01's rules; it is over after 3 + N(3 + 3B) answers; its evaluations are the finite answers accepted.
 -- Assumes nothing.
 use mathlib.Core.Path.{_≡_, refl, sym, ap, _∙_, subst}
-use mathlib.Core.Bool.{Bool, true, false, cond, not, _&&_}
+use mathlib.Core.Bool.{Bool, true, false, cond, _&&_}
 use mathlib.Core.List.{List, _∷_}
 use Prim.Native.Nat.{ℕ, _+_, _*_, _≤_, _<_}
 use native.Mathlib.Nat.{mul-le-mul-right}
@@ -13,7 +13,7 @@ use lib.Ieee.{Float}
 use lib.Ieee.Scale.{finite}
 use borrow.Author.Tests.{leb-true}
 use Rattle.outcomes.specs.Outcomes.{refusal, Told, told}
-use Rattle.outcomes.specs.Asking.{Search as Run, over, Reply, respond, shown, reported, isOver, rest, outcomes, after, accepted, reached, played}
+use Rattle.outcomes.specs.Asking.{Search as Run, over, Reply, respond, shown, reported, isOver, rest, outcomes, after, accepted, notFinite, reached, played}
 use Rattle.outcomes.specs.Counters.{counted}
 use Rattle.outcomes.proofs.Ends.{ends-over, ends-accepted, non-finite-last as ends-non-finite-last, non-finite-once as ends-non-finite-once}
 use Rattle.outcomes.proofs.Branches.{either, by-test, and-first, and-second}
@@ -168,11 +168,11 @@ module _ (s : Setup) (b : Search) (new : FreshSearch s b) (ys : List Reply) wher
       ∙ ap (λ (r : Run Report). isOver (after r ys)) (new .stands-for)
       ∙ ends-over (search-within s) ys h
 
-  -- of the answers given while the search asks at most one is not finite
-  pub non-finite-once : accepted (λ f g. not (answerFinite f g)) (search s) ys ≤ 1
+  -- of the rules, and so of the machine, which asks and ends as they do: of the answers given while the search asks at most one is not finite
+  pub non-finite-once : notFinite answerFinite (search s) ys ≤ 1
   non-finite-once = ends-non-finite-once (search-within s) ys
 
-  -- and it is the last: 2, with what was reported
+  -- and it is the last: 2, with what was reported (of any state of the machine: `non-finite-refused`, proofs/Refusals.antt)
   pub non-finite-last : (f g : Float) → isOver (after (search s) ys) ≡ false → answerFinite f g ≡ false
       → respond (after (search s) ys) f g ≡ over (reported (after (search s) ys)) (refusal 2)
   non-finite-last = ends-non-finite-last (search-within s) ys

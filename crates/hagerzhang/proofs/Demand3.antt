@@ -62,13 +62,17 @@ module _ (s : Setup) (b : Search) (new : FreshSearch s b) (ya yb yc : Reply) (ys
   pub each-answer : (y : Reply) → Moves (Finished s) (asked-with y) (report (reachedBy b given)) (report (reachedBy b (given ++ (y ∷ []))))
   each-answer y = rw (reported-here, reported-next y) (rules.each-answer s ya yb yc ys y)
 
-  -- "an iteration takes at most 3+3B answers": also one that is not finished, and whether its last answer is finite or not
+  -- "an iteration takes at most 3+3B answers" (of the rules, and so of the machine, which asks as they do): also one that is not finished, and whether its last answer is finite or not
   pub iteration-bounded : length asked ≤ 3 + 3 * s .options .budget
   iteration-bounded = rules.iteration-bounded s ya yb yc ys
 
   -- the iterations that are reported are those that the answers finished
   pub iterations-counted : (p : Last) → report (reachedBy b given) ≡ last p → p .iterations ≡ finished-by (rules.begun s ya yb yc) ys
   iterations-counted p e = rules.iterations-counted s ya yb yc ys p (sym reported-here ∙ e)
+
+  -- N at most, so that the counter never stops
+  pub iterations-bounded : (p : Last) → report (reachedBy b given) ≡ last p → p .iterations ≤ s .options .limit
+  iterations-bounded p e = rules.iterations-bounded s ya yb yc ys p (sym reported-here ∙ e)
 
   module _ (premise : rules.Premise s ya yb) where
     -- "after each finished iteration the bracket meets the same three, low step < high step"

@@ -1,13 +1,14 @@
--- 01's table of refusals for Hager-Zhang: a start and an answer are refused by exactly the rows of specs/Refusals.antt (`start-refused`, `answer-refused`: equations,
--- so both ways), and what a refusal leaves (`answer-leaves`). For every state and every answer. Assumes nothing.
-use mathlib.Core.Path.{_≡_, refl, sym, _∙_}
+-- 01's table of refusals for Hager-Zhang: a start and an answer are refused by exactly the rows of specs/Refusals.antt (`start-refused`, and `refused` of `answer-table`:
+-- equations, so both ways), and what a refusal leaves (`start-none`, and the other fields). For every state and every answer. Assumes nothing.
+use mathlib.Core.Path.{_≡_, refl, sym, ap, _∙_}
 use mathlib.Core.Bool.{Bool, true, false, cond, not, _&&_, false≢true}
-use mathlib.Core.Option.{Option, none, some, Option·none-ne-some}
+use mathlib.Core.Option.{Option, none, some, Option·none-ne-some, Option·some-injective}
 use Prim.Native.Nat.{ℕ, _-_}
 use lib.Dec.{eqb}
 use lib.Ieee.{Float}
 use lib.Ieee.Scale.{finite}
 use Rattle.floats.specs.Arithmetic.{_<ᶠ_}
+use Rattle.numbers.specs.Answers.{refused}
 use Rattle.outcomes.specs.Outcomes.{told}
 use Rattle.outcomes.specs.Refusals.{given, inOrder, Table, refusalIn}
 use Rattle.outcomes.specs.Counters.{counted, evaluations}
@@ -35,7 +36,7 @@ use Rattle.hagerzhang.specs.declared.Started.the-variants.{Began, NoSear
 use Rattle.rules.specs.Parameters.{suppliedFinite, inRanges, epsilonK, levelOf, setupOf}
 use Rattle.rules.specs.Rules.{point, answerFinite, middleOf, Report}
 use Rattle.hagerzhang.specs.Machine.{ends, next, comesOf, leftOf, onwardOf, openedOf, closedOf, outlookOf, endedOf, attemptOf, probeOf, madeOf, wentOf, reactOf, keptOf, stepTo, takenOf, answerBy, answerOf, fresh, startOf}
-use Rattle.hagerzhang.specs.Meaning.{keptReport, stageReport, report, startSays}
+use Rattle.hagerzhang.specs.Meaning.{keptReport, stageReport, report, startTold, startSays}
 use Rattle.hagerzhang.specs.Refusals.{startRows, isOver, Due, move, dueThen, due, budgetSpent, stepNotFinite, stepNotBetween, answerRows, keptAt, keptBy}
 
 -- ---- a start
@@ -50,6 +51,18 @@ starts o f0 s0 false b d = refl
 pub start-refused : (o : Options) (f0 s0 : Float) → Table (refusalIn (startSays (startOf o f0 s0))) (startRows o f0 s0)
 unfolding given inOrder
 start-refused o f0 s0 = record { exactly = starts o f0 s0 (suppliedFinite o f0 s0) (inRanges o) (finite (epsilonK o f0) && finite (levelOf o f0)); ordered = refl }
+
+-- "no search": where a start is refused, there is none
+none-begun : (o : Options) (f0 s0 : Float) (a b d : Bool) (n : ℕ)
+    → refusalIn (startSays (cond a (cond b (cond d (Began (fresh (setupOf o f0 s0))) (NoSearch ResultNotFinite)) (NoSearch OutOfRange)) (NoSearch SuppliedNotFinite))) ≡ some n
+    → startTold (cond a (cond b (cond d (Began (fresh (setupOf o f0 s0))) (NoSearch ResultNotFinite)) (NoSearch OutOfRange)) (NoSearch SuppliedNotFinite)) ≡ refused n
+none-begun o f0 s0 true true true n e = absurd (Option·none-ne-some n e)
+none-begun o f0 s0 true true false n e = ap refused (Option·some-injective 4 n e)
+none-begun o f0 s0 true false d n e = ap refused (Option·some-injective 3 n e)
+none-begun o f0 s0 false b d n e = ap refused (Option·some-injective 2 n e)
+
+pub start-none : (o : Options) (f0 s0 : Float) (n : ℕ) → refusalIn (startSays (startOf o f0 s0)) ≡ some n → startTold (startOf o f0 s0) ≡ refused n
+start-none o f0 s0 = none-begun o f0 s0 (suppliedFinite o f0 s0) (inRanges o) (finite (epsilonK o f0) && finite (levelOf o f0))
 
 -- ---- what is due, and what the machine makes of it
 
@@ -116,6 +129,8 @@ pub record Answered (s : Search) (f g : Float) (r : Step) : Type 0 where
   -- 2, 5, 6, 7: "search over", which "keeps bracket, best and iteration count from before that iteration"
   pub over : (n : ℕ) → refusalIn (told (r .outcome)) ≡ some n → isOver (r .search .stage) ≡ true
   pub keeps : (n : ℕ) → refusalIn (told (r .outcome)) ≡ some n → report (r .search) ≡ keptBy s f g
+  -- "Evaluations count every finite answer accepted, those of a refused iteration too."
+  pub counts : r .search .evaluations .0 ≡ cond (isOver (s .stage)) (s .evaluations .0) (cond (answerFinite f g) (counted (s .evaluations .0)) (s .evaluations .0))
 
 either-way : (b : Bool) (k : Report) → k ≡ cond b k k
 either-way true k = refl
@@ -128,13 +143,22 @@ module _ (s : Search) (f g : Float) where
   unfolding given inOrder stageReport
   taken waiting w true e =
       let m = reacts (s .setup) (keptReport (keptOf waiting)) waiting f g in
-      record { refused = record { exactly = rw (w, e) (m .number); ordered = refl }; unchanged = λ o. absurd (false≢true (sym (rw w) ∙ o)); over = m .over; keeps = λ n q. rw (w, e) (m .keeps n q) }
-  taken waiting w false e = record { refused = record { exactly = rw (w, e); ordered = refl }; unchanged = λ o. absurd (false≢true (sym (rw w) ∙ o)); over = λ n q. refl; keeps = λ n q. rw (w, e) }
+      record { refused = record { exactly = rw (w, e) (m .number); ordered = refl }; unchanged = λ o. absurd (false≢true (sym (rw w) ∙ o)); over = m .over; keeps = λ n q. rw (w, e) (m .keeps n q); counts = rw (w, e) }
+  taken waiting w false e = record { refused = record { exactly = rw (w, e); ordered = refl }; unchanged = λ o. absurd (false≢true (sym (rw w) ∙ o)); over = λ n q. refl; keeps = λ n q. rw (w, e); counts = rw (w, e) }
 
   answered : (stage : Stage) → s .stage ≡ stage → Answered s f g (answerBy s f g stage)
   unfolding answerBy takenOf given inOrder due
   answered (Open waiting) w = taken waiting w (answerFinite f g) refl
-  answered (Over kept) w = record { refused = record { exactly = rw w; ordered = refl }; unchanged = λ o. refl; over = λ n q. rw w; keeps = λ n q. rw w (either-way (answerFinite f g) (stageReport (Over kept))) }
+  answered (Over kept) w = record { refused = record { exactly = rw w; ordered = refl }; unchanged = λ o. refl; over = λ n q. rw w; keeps = λ n q. rw w (either-way (answerFinite f g) (stageReport (Over kept))); counts = rw w }
 
 pub answer-table : (s : Search) (f g : Float) → Answered s f g (answerOf s f g)
 answer-table s f g = answered s f g (s .stage) refl
+
+-- an answer that is not finite is the last: 2, the search is over, and what was reported stays
+pub non-finite-refused : (s : Search) (f g : Float) → isOver (s .stage) ≡ false → answerFinite f g ≡ false
+    → (refusalIn (told (answerOf s f g .outcome)) ≡ some 2) × (isOver (answerOf s f g .search .stage) ≡ true) × (report (answerOf s f g .search) ≡ report s)
+unfolding given
+non-finite-refused s f g runs amiss =
+    let a = answer-table s f g in
+    let two : refusalIn (told (answerOf s f g .outcome)) ≡ some 2 = a .refused .exactly ∙ rw (runs, amiss) in
+    (two, a .over 2 two, a .keeps 2 two ∙ rw amiss)

@@ -1,6 +1,6 @@
--- 01, "How tight the contracts are": a program that "hands the state back untouched" would satisfy demand 3's bracket clause (`untouched-keeps`: its report never
--- changes), "so that clause is read over 2's rules". Demand 2 shuts it out (`untouched-shut-out`): what follows the rules hands no started search back untouched at a
--- finite answer. Assumes nothing.
+-- 01, "How tight the contracts are": a program that "hands the state back untouched" would satisfy demand 3's bracket clause (`untouched-keeps`), "so that clause is
+-- read over 2's rules". Demand 2 shuts it out (`untouched-shut-out`): what follows the rules does not hand a fresh search back untouched at its first finite answer.
+-- Assumes nothing.
 use mathlib.Core.Path.{_≡_, refl, sym, ap, _∙_, subst}
 use mathlib.Core.Bool.{true, false, false≢true}
 use mathlib.Core.List.{List, [], _∷_}
@@ -14,14 +14,15 @@ use Rattle.hagerzhang.specs.declared.Search.{Search}
 use Rattle.hagerzhang.specs.declared.Step.{Step}
 use Rattle.rules.specs.Rules.{answerFinite, Report, askHigh, search}
 use Rattle.hagerzhang.specs.Meaning.{report, meant, Follows}
+use Rattle.rules.proofs.Demand3.{Holds}
 use Rattle.hagerzhang.proofs.Demand2.{FreshSearch}
 use Rattle.hagerzhang.proofs.Demand3.{ends-ordered}
 
--- the report of a program that hands the state back, after any answers
-pub untouched-keeps : (s : Search) (ys : List Reply) → report (reached (λ (t : Search) (f g : Float). t) s ys) ≡ report s
+-- a program that hands the state back: where its bracket is one, it stays one, after any answers
+pub untouched-keeps : (L : Float) (s : Search) (ys : List Reply) → Holds L (report s) → Holds L (report (reached (λ (t : Search) (f g : Float). t) s ys))
 unfolding reached
-untouched-keeps s [] = refl
-untouched-keeps s (y ∷ ys) = untouched-keeps s ys
+untouched-keeps L s [] h = h
+untouched-keeps L s (y ∷ ys) h = untouched-keeps L s ys h
 
 step-in : Float → Told → Float
 step-in x (asks y) = y

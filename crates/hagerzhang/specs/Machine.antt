@@ -1,5 +1,6 @@
--- The machine's own bookkeeping, which the contracts cite: nobody needs this to check 01. specs/Meaning.antt says what a state stands for in 01's
--- rules, proofs/Bridge.antt that every step is the rules' step, and proofs/Demand2.antt the same for any list of answers.
+-- The machine's own bookkeeping, which the contracts cite. 01's rules are checked without it: specs/Meaning.antt says what a state stands for in them,
+-- proofs/Bridge.antt that every step is the rules' step, and proofs/Demand2.antt the same for any list of answers. specs/Refusals.antt speaks of the move that
+-- it makes due, so as to say of any state when it is refused.
 use Prim.Native.Nat.{ℕ, zero, suc, _-_}
 use mathlib.Core.Bool.{Bool, cond, _&&_}
 use lib.Dec.{leb, eqb}

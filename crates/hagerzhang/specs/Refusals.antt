@@ -35,7 +35,8 @@ abbrev pub isOver : Stage → Bool
 isOver (Open waiting) = false
 isOver (Over kept) = true
 
--- What a finite answer makes due: in the start a step that was supplied, and otherwise a move of 01's rules, in the iteration that follows `last`.
+-- What a finite answer makes due: in the start a step that was supplied, and otherwise a move, in the iteration that follows `last`. That the move is the one that
+-- 01's rules make is demand 2; here it is named, so that the table can speak of its step.
 pub data Due : Type 0 where
   supplied : Due
   move : Finished → Move → Due
@@ -55,7 +56,7 @@ due s (Open (Running last t asked)) f g =
     dueThen s last (onwardOf (s .options .params .gamma) (last .bracket) t (leftOf (s .options .budget) asked) (comesOf (s .level) t asked f g))
 due s (Over kept) f g = supplied
 
--- 6: "one U3 run has had B answers and the last did not end it": U3 is to go on, and no answer is left to it
+-- 6: "one U3 run has had B answers and the last did not end it": U3 is to go on, and none of its B answers is left to it (each takes one, as in the rules' `U3`)
 abbrev pub budgetSpent : Due → Bool
 budgetSpent supplied = false
 budgetSpent (move last (Try u t)) = false

@@ -8,8 +8,9 @@ use native.Mathlib.Nat.{not-suc-le-zero, le-of-suc-le-suc}
 use native.Mathlib.Omega.{arith}
 use lib.ListN.{length}
 use lib.Ieee.{Float}
+use Rattle.outcomes.proofs.Machines.{none-more}
 use Rattle.outcomes.specs.Outcomes.{refusal}
-use Rattle.outcomes.specs.Asking.{ask, end, Search, Over, over, leaving, question, Reply, respond, reported, isOver, after, accepted}
+use Rattle.outcomes.specs.Asking.{ask, end, Search, Over, over, leaving, question, Reply, respond, reported, isOver, after, accepted, notFinite}
 
 pub data Ends {K : Type 0} (finite : Float → Float → Bool) : ℕ → Search K → Type 0 where
   at-end : {n : ℕ} {o : Over K} → Ends finite n (end o)
@@ -25,11 +26,6 @@ module _ {K : Type 0} where
   unfolding isOver after respond
   stays-over o [] = refl
   stays-over o (y ∷ ys) = stays-over _ ys
-
-  none-at-end : (counted : Float → Float → Bool) (o : Over K) (ys : List Reply) → accepted counted (end o) ys ≡ 0
-  unfolding accepted
-  none-at-end counted o [] = refl
-  none-at-end counted o (y ∷ ys) = refl
 
 module _ {K : Type 0} {finite : Float → Float → Bool} where
   pub ends-within : {n : ℕ} {r : Search K} → Ends finite n r → (m : ℕ) → n ≤ m → Ends finite m r
@@ -67,7 +63,7 @@ module _ {K : Type 0} {finite : Float → Float → Bool} where
   non-finite-last (at-ask v e) [] f g asking u = v f g u
   non-finite-last (at-ask v e) (y ∷ ys) f g asking u = non-finite-last (e (y .0) (y .1)) ys f g asking u
 
-  pub non-finite-once : {n : ℕ} {r : Search K} → Ends finite n r → (ys : List Reply) → accepted (λ f g. not (finite f g)) r ys ≤ 1
+  pub non-finite-once : {n : ℕ} {r : Search K} → Ends finite n r → (ys : List Reply) → notFinite finite r ys ≤ 1
   unfolding accepted
   non-finite-once at-end [] = omega arith
   non-finite-once at-end (y ∷ ys) = omega arith
@@ -77,4 +73,4 @@ module _ {K : Type 0} {finite : Float → Float → Bool} where
       by : (b : Bool) → finite (y .0) (y .1) ≡ b → accepted (λ f g. not (finite f g)) (then (y .0) (y .1)) ys ≤ 1
           → cond (not b) 1 0 + accepted (λ f g. not (finite f g)) (then (y .0) (y .1)) ys ≤ 1
       by true t h = omega arith
-      by false t h = rw (u (y .0) (y .1) t, none-at-end (λ f g. not (finite f g)) _ ys) (omega arith)
+      by false t h = rw (u (y .0) (y .1) t, none-more _ (λ f g. not (finite f g)) ys) (omega arith)

@@ -41,16 +41,20 @@ module _ (s : Setup) where
   abbrev M : ℕ
   M = 3 + 3 * s .options .budget
 
+  -- N iterations, and the start
+  abbrev T : ℕ
+  T = s .options .limit + 1
+
   holds-moved : (asked : List Point) (k l : Report) → Moves (Finished s) asked k l → Holds (s .level) k → Holds (s .level) l
   holds-moved asked k l as-before h = h
   holds-moved asked k l (one-more {p = p} i f) h = holds (f .sound .stays (bracketed (last p) p h refl))
 
-  holds-along : (ys : List Reply) (asked : List Point) (r : Search Report) → Stands (Finished s) M asked r → Holds (s .level) (reported r) → Holds (s .level) (reported (after r ys))
+  holds-along : (ys : List Reply) (asked : List Point) (r : Search Report) → Stands (Finished s) M T asked r → Holds (s .level) (reported r) → Holds (s .level) (reported (after r ys))
   unfolding after
   holds-along [] asked r a h = h
   holds-along (y ∷ ys) asked r a h =
-      holds-along ys (kept r y asked) (respond r (y .0) (y .1)) (stands-after (Finished s) M asked r y a)
-      (holds-moved (noted r y asked) (reported r) (reported (respond r (y .0) (y .1))) (answer-moves (Finished s) M asked r y a) h)
+      holds-along ys (kept r y asked) (respond r (y .0) (y .1)) (stands-after (Finished s) M T asked r y a)
+      (holds-moved (noted r y asked) (reported r) (reported (respond r (y .0) (y .1))) (answer-moves (Finished s) M T asked r y a) h)
 
   -- "Let the answered starting ends have low slope < 0, low cost <= L (initial cost + epsilon_k, as computed) and high slope >= 0."
   pub record Premise (ya yb : Reply) : Type 0 where
@@ -100,27 +104,31 @@ module _ (s : Setup) where
     starts-first : reported (rounds s (s .options .limit) (bracket low-end high-end) c 0) ≡ first
     starts-first = rounds-report s (s .options .limit) (bracket low-end high-end) c 0
 
-    begun-stands : Stands (Finished s) M [] begun
+    rounds-stand : Stands (Finished s) M T [] (rounds s (s .options .limit) (bracket low-end high-end) c 0)
+    rounds-stand = record {
+      left = s .options .limit;
+      arrives = rw starts-first (rounds-arrive s (s .options .limit) (bracket low-end high-end) c 0);
+      total = rw starts-first;
+    }
+
+    begun-stands : Stands (Finished s) M T [] begun
     unfolding reported
-    begun-stands =
-        either-begun (Stands (Finished s) M [])
-        (record { left = s .options .limit; arrives = rw starts-first (rounds-arrive s (s .options .limit) (bracket low-end high-end) c 0) })
-        (λ n. record { left = 0; arrives = ended })
+    begun-stands = either-begun (Stands (Finished s) M T []) rounds-stand (λ n. record { left = T; arrives = ended; total = omega arith })
 
     -- "each finished iteration": for any further answers ys, where the next answer y brings the count from p's to one more, q's. No premise: each end is, bit for bit,
     -- a former end or a step asked in that iteration with its answer
     pub each-iteration : (ys : List Reply) (y : Reply) (p q : Last) → reported (after begun ys) ≡ last p → reported (respond (after begun ys) (y .0) (y .1)) ≡ last q
         → q .iterations ≡ p .iterations + 1 → Finished s p (noted (after begun ys) y (under-way [] begun ys)) q
-    each-iteration ys y p q = each-finished (Finished s) M p q (under-way [] begun ys) (after begun ys) y (stands-along (Finished s) M ys [] begun begun-stands)
+    each-iteration ys y p q = each-finished (Finished s) M T p q (under-way [] begun ys) (after begun ys) y (stands-along (Finished s) M T ys [] begun begun-stands)
 
     -- every answer leaves the report as it was, or finishes the iteration under way, which is counted
     pub each-answer : (ys : List Reply) (y : Reply)
         → Moves (Finished s) (noted (after begun ys) y (under-way [] begun ys)) (reported (after begun ys)) (reported (respond (after begun ys) (y .0) (y .1)))
-    each-answer ys y = answer-moves (Finished s) M (under-way [] begun ys) (after begun ys) y (stands-along (Finished s) M ys [] begun begun-stands)
+    each-answer ys y = answer-moves (Finished s) M T (under-way [] begun ys) (after begun ys) y (stands-along (Finished s) M T ys [] begun begun-stands)
 
     -- "an iteration takes at most 3+3B answers": also one that is not finished, and whether its last answer is finite or not
     pub iteration-bounded : (ys : List Reply) → length (under-way [] begun ys) ≤ 3 + 3 * s .options .budget
-    iteration-bounded ys = few-along (Finished s) M ys [] begun begun-stands (omega arith)
+    iteration-bounded ys = few-along (Finished s) M T ys [] begun begun-stands (omega arith)
 
     -- the iterations that are reported are those that the answers finished
     pub iterations-counted : (ys : List Reply) (p : Last) → reported (after begun ys) ≡ last p → p .iterations ≡ finished-by begun ys
@@ -128,11 +136,19 @@ module _ (s : Setup) where
         either-begun (λ r. reported (after r ys) ≡ last p → p .iterations ≡ finished-by r ys)
         (λ e.
         let r = rounds s (s .options .limit) (bracket low-end high-end) c 0 in
-        let z = finished-counted (Finished s) M ys [] r (record { left = s .options .limit; arrives = rw starts-first (rounds-arrive s (s .options .limit) (bracket low-end high-end) c 0) }) in
+        let z = finished-counted (Finished s) M T ys [] r rounds-stand in
         let a = ap progress e in
         let b = ap progress starts-first in
         omega arith)
         (λ n e. absurd (none-finished _ p (keeps-none (record { keeps = noneYet; by = refusal n }) ys refl) e))
+
+    -- N at most
+    pub iterations-bounded : (ys : List Reply) (p : Last) → reported (after begun ys) ≡ last p → p .iterations ≤ s .options .limit
+    iterations-bounded ys p e =
+        let a = stands-along (Finished s) M T ys [] begun begun-stands in
+        let t = a .total in
+        let d = ap progress e in
+        omega arith
 
     -- under 01's min < max and the three facts
     module _ (ranges : s .options .params .min <ᶠ s .options .params .max ≡ true) (premise : Premise ya yb) where
