@@ -33,14 +33,14 @@ paramsOf body = record {
   eta = floatAt body 40;
   min = floatAt body 48;
   max = floatAt body 56;
-  start = floatAt body 64
+  start = floatAt body 64;
 }
 
 unfoldable pub hagerZhangOf : List ℕ → SearchStart
 hagerZhangOf body = record {
   options = record { params = paramsOf body; budget = quadAt body 88; limit = quadAt body 92 };
   f0 = floatAt body 72;
-  s0 = floatAt body 80
+  s0 = floatAt body 80;
 }
 
 -- "condition 1 Armijo, 2 Goldstein, 3 Wolfe, 4 strong Wolfe"; c or c1; "c2, not read for 1 and 2". A byte above 4 is malformed, and never comes here.
@@ -56,7 +56,7 @@ backtrackingOf body = record {
   alpha = floatAt body 25;
   f0 = floatAt body 33;
   s0 = floatAt body 41;
-  limit = quadAt body 49
+  limit = quadAt body 49;
 }
 
 -- "tag 17 (16 bytes: cost, slope)"

@@ -88,7 +88,12 @@ fn tagged_field(tag: u8, size: usize, body: &[u8], searching: bool) -> Field
         return dot_field(size, wire::pair(body), wire::pair(wire::from(body, 2)));
     }
     if tag == 35 {
-        return point_field(size, wire::pair(body), wire::pair(wire::from(body, 2)), wire::pair(wire::from(body, 4)));
+        return point_field(
+            size,
+            wire::pair(body),
+            wire::pair(wire::from(body, 2)),
+            wire::pair(wire::from(body, 4)),
+        );
     }
     Field::Malformed
 }
@@ -161,7 +166,11 @@ pub fn hager_zhang(body: &[u8]) -> SearchStart
     let budget = quad(body, 88);
     let limit = quad(body, 92);
     SearchStart {
-        options: Options { params: p, budget, limit },
+        options: Options {
+            params: p,
+            budget,
+            limit,
+        },
         f0,
         s0,
     }
