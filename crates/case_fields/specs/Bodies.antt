@@ -1,7 +1,7 @@
 -- What the body of a well-formed field says.
-use Prim.Native.Nat.{ℕ}
+use Prim.Native.Nat.{ℕ, zero, suc}
 use mathlib.Core.Bool.{cond}
-use mathlib.Core.List.{List}
+use mathlib.Core.List.{List, [], _∷_}
 use lib.Dec.{eqb}
 use lib.ListN.{drop}
 use lib.Ieee.{Float}
@@ -62,3 +62,8 @@ backtrackingOf body = record {
 -- "tag 17 (16 bytes: cost, slope)"
 abbrev pub replyOf : List ℕ → Reply
 replyOf body = record { cost = floatAt body 0; slope = floatAt body 8 }
+
+-- k floats, one behind the other
+abbrev pub floatsOf : ℕ → List ℕ → List Float
+floatsOf zero s = []
+floatsOf (suc k) s = floatOf s ∷ floatsOf k (drop 8 s)

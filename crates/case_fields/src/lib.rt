@@ -5,7 +5,9 @@ use conditions::Condition;
 use rules::Options;
 use rules::Params;
 ghost use mathlib.Core.Path.{_≡_};
-ghost use Rattle.case_fields.specs.Bodies.{floatAt, quadAt, paramsOf, hagerZhangOf, conditionOf, backtrackingOf, replyOf};
+ghost use Prim.Native.Nat.{_≤_};
+ghost use Rattle.case_fields.specs.Bodies.{floatAt, quadAt, paramsOf, hagerZhangOf, conditionOf, backtrackingOf, replyOf, floatsOf};
+ghost use lib.ListN.{length, drop};
 ghost use Rattle.case_fields.specs.Fields.{isCondition, dotField, pointField, taggedField, readOf};
 
 // A field by its kind, with the lengths that its body names.
@@ -217,5 +219,35 @@ pub fn answer(body: &[u8]) -> Reply
     Reply {
         cost: float(body, 0),
         slope: float(body, 8),
+    }
+}
+
+// The place at, or the end where that comes first.
+fn within(body: &[u8], at: usize) -> usize
+    ensures { λ r. ⌜ (r ≤ length (now (body .entry))) × (drop r (now (body .entry)) ≡ drop at (now (body .entry))) ⌝ }
+{
+    let n = body.len();
+    if at < n { at } else { n }
+}
+
+// The place of the next float, or the end.
+fn next(body: &[u8], at: usize) -> usize
+    requires { ⌜ at ≤ length (now body) ⌝ }
+    ensures { λ r. ⌜ (r ≤ length (now (body .entry))) × (drop r (now (body .entry)) ≡ drop 8 (drop at (now (body .entry)))) ⌝ }
+{
+    let n = body.len();
+    if n - at < 8 { n } else { at + 8 }
+}
+
+// Fills v with the floats of the body, from a place on.
+pub fn floats(body: &[u8], at: usize, v: &mut [f64])
+    ensures { λ _. ⌜ now (v .exit) ≡ floatsOf (length (now (v .entry))) (drop at (now (body .entry))) ⌝ }
+{
+    let mut p = within(body, at);
+    let mut i = 0;
+    while i < v.len() {
+        v[i] = float(body, p);
+        p = next(body, p);
+        i += 1;
     }
 }
