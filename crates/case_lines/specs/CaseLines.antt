@@ -1,6 +1,6 @@
 -- The lines of the program `cases` beside those of outcomes. Each ends with a newline.
 use Prim.Native.Nat.{ℕ}
-use mathlib.Core.List.{List, _++_}
+use mathlib.Core.List.{List, [], _∷_, _++_}
 use lib.Ieee.{Float}
 use Rattle.text.specs.Text.{bytes, decimalOf}
 use Rattle.lines.specs.Lines.{nextText, countsText}
@@ -25,6 +25,14 @@ malformedLine b = bytes "MALFORMED at " ++ decimalOf b ++ bytes "\n"
 -- "For dot: `VALUE h`"
 abbrev pub valueLine : Float → List ℕ
 valueLine x = bytes "VALUE" ++ nextText x ++ bytes "\n"
+
+-- "`OUT` and the buffer's numbers, each after a blank"
+abbrev pub numbersText : List Float → List ℕ
+numbersText [] = []
+numbersText (x ∷ xs) = nextText x ++ numbersText xs
+
+abbrev pub outLine : List Float → List ℕ
+outLine xs = bytes "OUT" ++ numbersText xs ++ bytes "\n"
 
 -- ---- "three closing lines with what the search holds"
 

@@ -10,7 +10,7 @@ use rules::Point;
 ghost use mathlib.Core.Path.{_≡_};
 ghost use Rattle.hagerzhang.specs.Machine.{keptOf};
 ghost use Rattle.text.specs.Text.{page, write};
-ghost use Rattle.case_lines.specs.CaseLines.{caseLine, malformedLine, valueLine, heldBy, iterationsOf, pointText, noneText, finishedText, closingText};
+ghost use Rattle.case_lines.specs.CaseLines.{caseLine, malformedLine, valueLine, numbersText, outLine, heldBy, iterationsOf, pointText, noneText, finishedText, closingText};
 
 // The head of case k.
 pub fn head(out: &mut [u8], at: usize, k: u64) -> usize
@@ -36,6 +36,27 @@ pub fn value(out: &mut [u8], at: usize, x: f64) -> usize
 {
     let p = text::word(out, at, b"VALUE");
     let q = lines::float(out, p, x);
+    text::word(out, q, b"\n")
+}
+
+fn numbers(out: &mut [u8], at: usize, xs: &[f64]) -> usize
+    ensures { λ r. ⌜ page (now (out .exit)) r ≡ write (page (now (out .entry)) at) (numbersText (now (xs .entry))) ⌝ }
+{
+    let mut p = at;
+    let mut i = 0;
+    while i < xs.len() {
+        p = lines::float(out, p, xs[i]);
+        i += 1;
+    }
+    p
+}
+
+// A buffer's numbers.
+pub fn buffer(out: &mut [u8], at: usize, xs: &[f64]) -> usize
+    ensures { λ r. ⌜ page (now (out .exit)) r ≡ write (page (now (out .entry)) at) (outLine (now (xs .entry))) ⌝ }
+{
+    let p = text::word(out, at, b"OUT");
+    let q = numbers(out, p, xs);
     text::word(out, q, b"\n")
 }
 
