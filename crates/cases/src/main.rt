@@ -11,7 +11,7 @@ use outcomes::Evaluations;
 use outcomes::Iterations;
 ghost use mathlib.Core.Path.{_≡_};
 ghost use Prim.Native.Nat.{_≤_, _<_};
-ghost use lib.ListN as lists;
+ghost use lib.ListN.{length};
 
 // ---- the text that is not yet written out
 
@@ -140,31 +140,15 @@ fn answered(out: &mut [u8], at: usize, seat: Seat, y: Reply) -> Seated {
 
 // ---- vectors
 
-// The place k behind at, for places within a field.
-fn after(at: usize, k: usize) -> usize {
-    if at < 100000 {
-        if k < 100000 {
-            return at + k;
-        }
-    }
-    100000
-}
-
-// n floats of the body, from a place on.
+// n floats of the body, from a place on, to the front of v.
 fn vector(body: &[u8], at: usize, v: &mut [f64], n: usize)
-    requires { ⌜ n ≤ lists.length (now v) ⌝ }
+    requires { ⌜ n ≤ length (now v) ⌝ }
 {
-    let mut next = at;
-    let mut i = 0;
-    while i < n {
-        v[i] = case_fields::float(body, next);
-        next = after(next, 8);
-        i += 1;
-    }
+    case_fields::floats(body, at, &mut v[..n]);
 }
 
 fn dot_line(out: &mut [u8], at: usize, a: &[f64], n: usize, b: &[f64], m: usize) -> usize
-    requires { ⌜ (n ≤ lists.length (now a)) × (m ≤ lists.length (now b)) ⌝ }
+    requires { ⌜ (n ≤ length (now a)) × (m ≤ length (now b)) ⌝ }
 {
     match numbers::dot(&a[..n], &b[..m]) {
         DotResult::Value(v) => case_lines::value(out, at, v),
@@ -173,12 +157,12 @@ fn dot_line(out: &mut [u8], at: usize, a: &[f64], n: usize, b: &[f64], m: usize)
 }
 
 fn dot(out: &mut [u8], at: usize, body: &[u8], n: usize, m: usize) -> usize
-    requires { ⌜ (n ≤ 512) × (m ≤ 512) ⌝ }
+    requires { ⌜ (n ≤ 511) × (m ≤ 511) ⌝ }
 {
-    let mut a = [0.0; 512];
-    let mut b = [0.0; 512];
+    let mut a = [0.0; 511];
+    let mut b = [0.0; 511];
     vector(body, 4, &mut a, n);
-    vector(body, after(4, 8 * n), &mut b, m);
+    vector(body, 4 + 8 * n, &mut b, m);
     dot_line(out, at, &a, n, &b, m)
 }
 
@@ -193,7 +177,7 @@ fn point_line(
     buffer: &mut [f64],
     k: usize,
 ) -> usize
-    requires { ⌜ (n ≤ lists.length (now x0)) × (m ≤ lists.length (now d)) × (k ≤ lists.length (now buffer)) ⌝ }
+    requires { ⌜ (n ≤ length (now x0)) × (m ≤ length (now d)) × (k ≤ length (now buffer)) ⌝ }
 {
     match numbers::point(&x0[..n], alpha, &d[..m], &mut buffer[..k]) {
         PointResult::Written => text::word(out, at, b"POINT\n"),
@@ -201,40 +185,25 @@ fn point_line(
     }
 }
 
-// What the buffer holds.
-fn held(out: &mut [u8], at: usize, buffer: &[f64], k: usize) -> usize
-    requires { ⌜ k ≤ lists.length (now buffer) ⌝ }
+fn buffer_line(out: &mut [u8], at: usize, buffer: &[f64], k: usize) -> usize
+    requires { ⌜ k ≤ length (now buffer) ⌝ }
 {
-    let mut p = text::word(out, at, b"OUT");
-    let mut i = 0;
-    while i < k {
-        p = lines::float(out, p, buffer[i]);
-        i += 1;
-    }
-    text::byte(out, p, b'\n')
+    case_lines::buffer(out, at, &buffer[..k])
 }
 
+// The buffer is filled before the call, so that it shows what the call wrote.
 fn point(out: &mut [u8], at: usize, body: &[u8], n: usize, m: usize, k: usize) -> usize
-    requires { ⌜ (n ≤ 512) × (m ≤ 512) × (k ≤ 512) ⌝ }
+    requires { ⌜ (n ≤ 511) × (m ≤ 511) × (k ≤ 511) ⌝ }
 {
-    let mut x0 = [0.0; 512];
-    let mut d = [0.0; 512];
+    let mut x0 = [0.0; 511];
+    let mut d = [0.0; 511];
     let infinity = bits::float_of(0x7ff0_0000_0000_0000);
-    let mut buffer = [infinity; 512];
+    let mut buffer = [infinity; 511];
     vector(body, 14, &mut x0, n);
-    vector(body, after(14, 8 * n), &mut d, m);
-    let p = point_line(
-        out,
-        at,
-        &x0,
-        n,
-        case_fields::float(body, 6),
-        &d,
-        m,
-        &mut buffer,
-        k,
-    );
-    held(out, p, &buffer, k)
+    vector(body, 14 + 8 * n, &mut d, m);
+    let alpha = case_fields::float(body, 6);
+    let p = point_line(out, at, &x0, n, alpha, &d, m, &mut buffer, k);
+    buffer_line(out, p, &buffer, k)
 }
 
 // ---- a field
@@ -297,15 +266,11 @@ fn served(out: &mut [u8], s: &[u8], desk: Desk, b: u64) -> Desk {
         ),
         Field::Dot(n, m) => {
             let p = opened(out, desk);
-            free(dot(out, p, body, n % 512, m % 512), one_more(cases), false)
+            free(dot(out, p, body, n, m), one_more(cases), false)
         }
         Field::Point(n, m, k) => {
             let p = opened(out, desk);
-            free(
-                point(out, p, body, n % 512, m % 512, k % 512),
-                one_more(cases),
-                false,
-            )
+            free(point(out, p, body, n, m, k), one_more(cases), false)
         }
         Field::Malformed => {
             let p = closed(out, desk.at, seat);
@@ -318,8 +283,8 @@ fn served(out: &mut [u8], s: &[u8], desk: Desk, b: u64) -> Desk {
 
 // The place behind the field at p.
 fn beyond(s: &[u8], p: usize) -> usize
-    requires { ⌜ p < lists.length (now s) ⌝ }
-    ensures { λ r. ⌜ (p < r) × (r ≤ lists.length (now (s .entry))) ⌝ }
+    requires { ⌜ p < length (now s) ⌝ }
+    ensures { λ r. ⌜ (p < r) × (r ≤ length (now (s .entry))) ⌝ }
 {
     let size = wire::pair(wire::from(s, p + 1));
     let left = s.len() - p;
@@ -339,7 +304,7 @@ struct Read {
 
 // The fields of s, which begins at byte b of the input: all of them where the input has ended, else those that are surely whole.
 fn fields(out: &mut [u8], s: &[u8], b: u64, ended: bool, before: Desk) -> Read
-    ensures { λ r. ⌜ r .from ≤ lists.length (now (s .entry)) ⌝ }
+    ensures { λ r. ⌜ r .from ≤ length (now (s .entry)) ⌝ }
 {
     let mut desk = before;
     let mut p: usize = 0;
@@ -368,8 +333,8 @@ fn place(b: u64, p: usize) -> u64 {
 
 // What is left of the input in memory, moved to the front, and as much more as there is room for.
 fn refilled(buf: &mut [u8], from: usize, to: usize) -> usize
-    requires { ⌜ (from ≤ to) × (to ≤ lists.length (now buf)) ⌝ }
-    ensures { λ r. ⌜ r ≤ lists.length (now (buf .exit)) ⌝ }
+    requires { ⌜ (from ≤ to) × (to ≤ length (now buf)) ⌝ }
+    ensures { λ r. ⌜ r ≤ length (now (buf .exit)) ⌝ }
 {
     let mut i = 0;
     while i < to - from {

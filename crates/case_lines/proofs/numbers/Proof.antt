@@ -22,11 +22,11 @@ loop-again : tie.Need-loop-again Inv-loop μ-loop
 loop-again c =
     let f = c .before .before in
     let l = f .before .before .before .before in
-    let a = l .before .before .before .args in
-    (
-    search needs,
-    f .float .kept .0 ∙ l .loop .inv .1,
-    then-number _ (now (a .xs)) (l .loop .i) (search needs) (l .loop .inv .2) (f .float .ensures))
+    let a = l .before .before .before .args in (
+      search needs,
+      f .float .kept .0 ∙ l .loop .inv .1,
+      then-number _ (now (a .xs)) (l .loop .i) (search needs) (l .loop .inv .2) (f .float .ensures),
+    )
 
 returns : tie.Need-returns Inv-loop μ-loop
 returns c =
