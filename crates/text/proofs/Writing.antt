@@ -58,3 +58,7 @@ pub within : (p : Page) (t : List ℕ) → p .at ≤ length (p .held) → write 
 unfolding write
 within p [] h = h
 within p (b ∷ t) h = within (put p b) t (step-within (p .held) (p .at) b (ltb (p .at) (length (p .held))) refl h)
+
+-- ---- a contract that gives the page gives both the buffer and the place
+pub told : (a b : List ℕ) (i j : ℕ) → page a i ≡ page b j → (a ≡ b) × (i ≡ j)
+told a b i j e = (ap (λ p. p .held) e, ap (λ p. p .at) e)
