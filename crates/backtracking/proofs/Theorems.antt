@@ -1,7 +1,7 @@
 -- What is proved of a backtracking search that `start` accepts, for every list of answers: its outcomes and its count of iterations are those of 01's
 -- rules; it is over after 1 + N answers; its evaluations are the finite answers accepted. Assumes nothing.
 use mathlib.Core.Path.{_≡_, refl, sym, ap, _∙_, subst}
-use mathlib.Core.Bool.{Bool, true, false, cond, _&&_, true≢false, false≢true}
+use mathlib.Core.Bool.{Bool, true, false, cond, _&&_, false≢true}
 use mathlib.Core.List.{List, [], _∷_}
 use Prim.Native.Nat.{ℕ, zero, suc, _+_, _-_, _≤_, _<_}
 use native.Mathlib.Omega.{arith}
@@ -11,10 +11,10 @@ use lib.ListN.{length}
 use lib.Ieee.{Float}
 use lib.Ieee.Scale.{finite}
 use borrow.Author.Tests.{leb-true, lt-ltb}
-use Rattle.outcomes.specs.Outcomes.{Told, told}
-use Rattle.outcomes.specs.Asking.{Search, end, Over as Ended, Reply, respond, shown, reported, isOver, rest, outcomes, after, accepted, reached, played}
+use Rattle.outcomes.specs.Outcomes.{met, stop, limit, refusal, Told, told}
+use Rattle.outcomes.specs.Asking.{Search, end, Over as Ended, over, Reply, respond, shown, reported, isOver, rest, outcomes, after, accepted, notFinite, reached, played}
 use Rattle.outcomes.specs.Counters.{counted, evaluations, iterations}
-use Rattle.outcomes.proofs.Ends.{Ends, at-end, at-ask, ends-if, ends-over, ends-accepted}
+use Rattle.outcomes.proofs.Ends.{Ends, at-end, ends-if, question-ends, ends-over, ends-accepted, non-finite-last as ends-non-finite-last, non-finite-once as ends-non-finite-once}
 use Rattle.outcomes.proofs.Branches.{either, by-test, and-second}
 use Rattle.outcomes.proofs.Machines as machines
 use Rattle.outcomes.specs.declared.Evaluations.{Evaluations}
@@ -158,16 +158,68 @@ over-is s i First e = absurd (false≢true (sym (asked-open s (s .limit - i) i i
 over-is s i (Later t) e = absurd (false≢true (sym (asked-open s (s .limit - counted i) i (counted i) t) ∙ e))
 over-is s i Over e = refl
 
-trials-end : (s : Setup) (k before now : ℕ) (t : Float) → Ends (suc k) (trials s k before now t)
+trials-end : (s : Setup) (k before now : ℕ) (t : Float) → Ends (answerFinite (s .condition)) (suc k) (trials s k before now t)
 unfolding trials
-trials-end s zero before now t =
-    at-ask (λ f g. ends-if (answerFinite (s .condition) f g) (ends-if (holdsOf (s .condition) (s .f0) (s .s0) t f g) at-end at-end) at-end)
+trials-end s zero before now t = question-ends before t _ (λ f g. ends-if (holdsOf (s .condition) (s .f0) (s .s0) t f g) at-end at-end)
 trials-end s (suc k) before now t =
-    at-ask (λ f g.
-    ends-if (answerFinite (s .condition) f g)
-    (ends-if (holdsOf (s .condition) (s .f0) (s .s0) t f g) at-end
+    question-ends before t _ (λ f g.
+    ends-if (holdsOf (s .condition) (s .f0) (s .s0) t f g) at-end
     (ends-if (finite (t ⊗ s .rho)) (trials-end s k now (now + 1) (t ⊗ s .rho)) at-end))
-    at-end)
+
+-- ---- "each later trial is one iteration": the iterations are one fewer than the answers accepted
+
+-- with a answers accepted from here on, where `before` are counted until the first of them, and `now` with it
+counted-by : ℕ → ℕ → ℕ → ℕ
+counted-by before now zero = before
+counted-by before now (suc a) = now + a
+
+counts-on : (before now a : ℕ) → counted-by now (now + 1) a ≡ counted-by before now (1 + a)
+unfolding counted-by
+counts-on before now zero = omega arith
+counts-on before now (suc a) = let e : 1 + suc a ≡ suc (suc a) = omega arith in rw e (omega arith)
+
+ended-reports : (o : Ended ℕ) (ys : List Reply) → reported (after (end o) ys) ≡ o .keeps
+unfolding reported after respond
+ended-reports o [] = refl
+ended-reports o (y ∷ ys) = ended-reports _ ys
+
+module _ (s : Setup) where
+  abbrev C : Float → Float → Bool
+  C = answerFinite (s .condition)
+
+  ended-counts : (before now : ℕ) (o : Ended ℕ) (ys : List Reply) (a : ℕ) → o .keeps ≡ counted-by before now a → reported (after (end o) ys) ≡ counted-by before now (a + accepted C (end o) ys)
+  ended-counts before now o ys a e =
+      let z : a + 0 ≡ a = omega arith in
+      ended-reports o ys ∙ rw (machines.none-more o C ys, z) e
+
+  trials-counted : (k before now : ℕ) (t : Float) (ys : List Reply) → reported (after (trials s k before now t) ys) ≡ counted-by before now (accepted C (trials s k before now t) ys)
+  unfolding trials reported after respond accepted counted-by
+  trials-counted zero before now t [] = refl
+  trials-counted (suc k) before now t [] = refl
+  trials-counted zero before now t (y ∷ ys) = by (C (y .0) (y .1)) (holdsOf (s .condition) (s .f0) (s .s0) t (y .0) (y .1))
+    where
+      by : (a h : Bool) → reported (after (cond a (cond h (over now (stop met t)) (over now (limit t))) (over before (refusal 2))) ys)
+          ≡ counted-by before now (cond a 1 0 + accepted C (cond a (cond h (over now (stop met t)) (over now (limit t))) (over before (refusal 2))) ys)
+      by true true = ended-counts before now _ ys 1 (omega arith)
+      by true false = ended-counts before now _ ys 1 (omega arith)
+      by false h = ended-counts before now _ ys 0 refl
+  trials-counted (suc k) before now t (y ∷ ys) = by (C (y .0) (y .1)) (holdsOf (s .condition) (s .f0) (s .s0) t (y .0) (y .1)) (finite (t ⊗ s .rho)) (trials-counted k now (now + 1) (t ⊗ s .rho) ys)
+    where
+      on : Bool → Search ℕ
+      on x = cond x (trials s k now (now + 1) (t ⊗ s .rho)) (over now (refusal 5))
+
+      by : (a h x : Bool) → reported (after (trials s k now (now + 1) (t ⊗ s .rho)) ys) ≡ counted-by now (now + 1) (accepted C (trials s k now (now + 1) (t ⊗ s .rho)) ys)
+          → reported (after (cond a (cond h (over now (stop met t)) (on x)) (over before (refusal 2))) ys)
+          ≡ counted-by before now (cond a 1 0 + accepted C (cond a (cond h (over now (stop met t)) (on x)) (over before (refusal 2))) ys)
+      by true true x ih = ended-counts before now _ ys 1 (omega arith)
+      by true false true ih = ih ∙ counts-on before now (accepted C (trials s k now (now + 1) (t ⊗ s .rho)) ys)
+      by true false false ih = ended-counts before now _ ys 1 (omega arith)
+      by false h x ih = ended-counts before now _ ys 0 refl
+
+  one-fewer : (a : ℕ) → counted-by 0 0 a ≡ a - 1
+  unfolding counted-by
+  one-fewer zero = refl
+  one-fewer (suc a) = omega arith
 
 -- ---- the theorems: for a setup that 01 accepts, the search that `start` gives, and every list of answers
 
@@ -203,6 +255,10 @@ module _ (s : Setup) (b : Backtracking) (new : FreshSearch s b) (ys : List Reply
       ∙ machines.reaches meant next says Fit fit-next leaves tells reported machines.report-rests b (new .same-setup) ys
       ∙ ap (λ (r : Search ℕ). reported (after r ys)) (new .stands-for)
 
+  -- "each later trial is one iteration": the iterations held are one fewer than the answers accepted, and none before the first
+  pub iterations-counted : reachedBy b ys .iterations .0 ≡ accepted (answerFinite (s .condition)) (search s) ys - 1
+  iterations-counted = iterations-are-rules ∙ trials-counted s (s .limit) 0 0 (s .alpha) ys ∙ one-fewer s (accepted (answerFinite (s .condition)) (search s) ys)
+
   -- demand 3: any search ends within 1 + N answers
   pub search-ends : 1 + s .limit ≤ length ys → reachedBy b ys .stage ≡ Over
   search-ends h =
@@ -211,6 +267,14 @@ module _ (s : Setup) (b : Backtracking) (new : FreshSearch s b) (ys : List Reply
       (machines.reaches meant next says Fit fit-next leaves tells isOver machines.over-rests b (new .same-setup) ys
       ∙ ap (λ (r : Search ℕ). isOver (after r ys)) (new .stands-for)
       ∙ ends-over (trials-end s (s .limit) 0 0 (s .alpha)) ys (omega arith))
+
+  -- of the answers given while the search asks at most one is not finite, and it is the last: 2, with what was reported
+  pub non-finite-once : notFinite (answerFinite (s .condition)) (search s) ys ≤ 1
+  non-finite-once = ends-non-finite-once (trials-end s (s .limit) 0 0 (s .alpha)) ys
+
+  pub non-finite-last : (f g : Float) → isOver (after (search s) ys) ≡ false → answerFinite (s .condition) f g ≡ false
+      → respond (after (search s) ys) f g ≡ over (reported (after (search s) ys)) (refusal 2)
+  non-finite-last = ends-non-finite-last (trials-end s (s .limit) 0 0 (s .alpha)) ys
 
   -- demand 3: the reported evaluations equal the finite answers accepted, which are 1 + N at most
   pub evaluations-bounded : accepted (answerFinite (s .condition)) (search s) ys ≤ 1 + s .limit

@@ -2,38 +2,35 @@
 -- iterations it holds after them, are those of 01's rules; it is over after 3 + N(3 + 3B) answers; its evaluations are the finite answers accepted.
 -- Assumes nothing.
 use mathlib.Core.Path.{_≡_, refl, sym, ap, _∙_, subst}
-use mathlib.Core.Bool.{Bool, true, false, cond, _&&_, false≢true}
-use mathlib.Core.List.{List, [], _∷_}
-use Prim.Native.Nat.{ℕ, zero, suc, _+_, _*_, _≤_, _<_}
-use native.Mathlib.Nat.{mul-le-mul-right, mul-le-mul-left}
+use mathlib.Core.Bool.{Bool, true, false, cond, _&&_}
+use mathlib.Core.List.{List, _∷_}
+use Prim.Native.Nat.{ℕ, _+_, _*_, _≤_, _<_}
+use native.Mathlib.Nat.{mul-le-mul-right}
 use native.Mathlib.Omega.{arith}
-use lib.Dec.{ltb, leb}
+use lib.Dec.{leb}
 use lib.ListN.{length}
 use lib.Ieee.{Float}
 use lib.Ieee.Scale.{finite}
-use borrow.Author.Tests.{leb-true, lt-ltb}
-use Rattle.outcomes.specs.Outcomes.{Told, told}
-use Rattle.outcomes.specs.Asking.{Search as Run, end, Over as Ended, Reply, respond, shown, reported, isOver, rest, outcomes, after, accepted, reached, played}
+use borrow.Author.Tests.{leb-true}
+use Rattle.outcomes.specs.Outcomes.{refusal, Told, told}
+use Rattle.outcomes.specs.Asking.{Search as Run, over, Reply, respond, shown, reported, isOver, rest, outcomes, after, accepted, notFinite, reached, played}
 use Rattle.outcomes.specs.Counters.{counted}
-use Rattle.outcomes.proofs.Ends.{ends-over, ends-accepted}
+use Rattle.outcomes.proofs.Ends.{ends-over, ends-accepted, non-finite-last as ends-non-finite-last, non-finite-once as ends-non-finite-once}
 use Rattle.outcomes.proofs.Branches.{either, by-test, and-first, and-second}
 use Rattle.outcomes.proofs.Machines as machines
-use Rattle.outcomes.specs.declared.Evaluations.{Evaluations}
 use Rattle.outcomes.specs.declared.Refusal.the-variants.{SuppliedNotFinite, OutOfRange, ResultNotFinite}
 use Rattle.rules.specs.declared.Options.{Options}
 use Rattle.rules.specs.declared.Setup.{Setup}
-use Rattle.hagerzhang.specs.declared.Kept.{Kept}
-use Rattle.hagerzhang.specs.declared.Waiting.{Waiting}
 use Rattle.hagerzhang.specs.declared.Stage.{Stage}
 use Rattle.hagerzhang.specs.declared.Stage.the-variants.{Open, Over}
 use Rattle.hagerzhang.specs.declared.Search.{Search}
 use Rattle.hagerzhang.specs.declared.Step.{Step}
-use Rattle.hagerzhang.specs.declared.Started.{Started}
 use Rattle.hagerzhang.specs.declared.Started.the-variants.{Began, NoSearch}
 use Rattle.rules.specs.Parameters.{suppliedFinite, wolfeInRange, factorsInRange, boundsInRange, countsInRange, inRanges, epsilonK, levelOf, setupOf}
 use Rattle.rules.specs.Rules.{answerFinite, Report, search}
 use Rattle.hagerzhang.specs.Machine.{takenOf, answerBy, answerOf, fresh, startOf}
-use Rattle.hagerzhang.specs.Meaning.{stageReport, report, meaning, meant, Follows}
+use Rattle.hagerzhang.specs.Meaning.{stageReport, report, meaning, meant}
+use Rattle.hagerzhang.specs.Refusals.{isOver as isOverStage}
 use Rattle.hagerzhang.proofs.Bridge.{follows, starts, starts-whole}
 use Rattle.rules.proofs.Bounds.{search-within}
 
@@ -124,12 +121,8 @@ unfolding meaning reported stageReport
 reports s (Open waiting) = refl
 reports s (Over kept) = refl
 
-pub isOverStage : Stage → Bool
-isOverStage (Open waiting) = false
-isOverStage (Over kept) = true
-
 over-is : (s : Setup) (stage : Stage) → isOver (meaning s stage) ≡ isOverStage stage
-unfolding meaning isOver isOverStage
+unfolding meaning isOver
 over-is s (Open waiting) = refl
 over-is s (Over kept) = refl
 
@@ -174,6 +167,15 @@ module _ (s : Setup) (b : Search) (new : FreshSearch s b) (ys : List Reply) wher
       ∙ machines.reaches meant next says Fit fit-next leaves tells isOver machines.over-rests b (new .same-setup) ys
       ∙ ap (λ (r : Run Report). isOver (after r ys)) (new .stands-for)
       ∙ ends-over (search-within s) ys h
+
+  -- of the rules, and so of the machine, which asks and ends as they do: of the answers given while the search asks at most one is not finite
+  pub non-finite-once : notFinite answerFinite (search s) ys ≤ 1
+  non-finite-once = ends-non-finite-once (search-within s) ys
+
+  -- and it is the last: 2, with what was reported (of any state of the machine: `non-finite-refused`, proofs/Refusals.antt)
+  pub non-finite-last : (f g : Float) → isOver (after (search s) ys) ≡ false → answerFinite f g ≡ false
+      → respond (after (search s) ys) f g ≡ over (reported (after (search s) ys)) (refusal 2)
+  non-finite-last = ends-non-finite-last (search-within s) ys
 
   -- demand 3: "The reported evaluations equal the finite answers accepted", at most 30,030,003 of them, so that no counter stops
   pub evaluations-bounded : accepted answerFinite (search s) ys ≤ 30030003

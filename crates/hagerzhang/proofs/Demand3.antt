@@ -1,12 +1,14 @@
 -- Demand 3 of a search that `start` accepts, for every list of answers: its bracket stays one, each finished iteration's lies within the former, and each end is a
--- former end or a point asked in that iteration with its answer. From the rules (rules/proofs/Demand3.antt), which the machine reports. Assumes nothing.
+-- former end or a point asked in that iteration with its answer; and its counts. From the rules (rules/proofs/Demand3.antt), which the machine reports. Assumes nothing.
 use mathlib.Core.Path.{_≡_, refl, sym, _∙_}
 use mathlib.Core.Bool.{true, _&&_}
 use mathlib.Core.List.{List, [], _∷_, _++_}
-use Prim.Native.Nat.{_+_}
+use Prim.Native.Nat.{_+_, _*_, _≤_}
+use lib.ListN.{length}
 use Rattle.floats.specs.Arithmetic.{_<ᶠ_, _≤ᶠ_, 0ᶠ}
 use Rattle.outcomes.specs.Asking.{Search as Run, Reply, respond, reported, after}
 use Rattle.outcomes.proofs.Branches.{and-first, and-second}
+use Rattle.rules.specs.declared.Point.{Point}
 use Rattle.rules.specs.declared.Setup.{Setup}
 use Rattle.hagerzhang.specs.declared.Search.{Search}
 use Rattle.rules.specs.Parameters.{wolfeInRange, factorsInRange, boundsInRange, countsInRange}
@@ -14,10 +16,11 @@ use Rattle.rules.specs.Rules.{Last, Report, last, search}
 use Rattle.hagerzhang.specs.Meaning.{report}
 use Rattle.rules.proofs.Iterations.{Bracketed, Within}
 use Rattle.rules.proofs.EachIteration.{Finished}
+use Rattle.rules.proofs.Along.{noted, under-way, finished-by, Moves}
 use Rattle.rules.proofs.Demand3 as rules
 use Rattle.hagerzhang.proofs.Demand2.{Accepted, FreshSearch, reachedBy, report-is-rules}
 
-ends-ordered : (s : Setup) → Accepted s → s .options .params .min <ᶠ s .options .params .max ≡ true
+pub ends-ordered : (s : Setup) → Accepted s → s .options .params .min <ᶠ s .options .params .max ≡ true
 ends-ordered s a =
     let p = s .options .params in
     let w = wolfeInRange p in
@@ -43,12 +46,35 @@ module _ (s : Setup) (b : Search) (new : FreshSearch s b) (ya yb yc : Reply) (ys
   unfolding after
   reported-next y = report-is-rules s b new (given ++ (y ∷ [])) ∙ rw (after-one-more (search s) given y)
 
+  -- the points asked in the iteration under way, with their answers
+  abbrev asked : List Point
+  asked = under-way [] (rules.begun s ya yb yc) ys
+
+  abbrev asked-with : Reply → List Point
+  asked-with y = noted (after (rules.begun s ya yb yc) ys) y asked
+
   -- "Each end is, bit for bit, a former end or a step asked in that iteration with its answer": whatever the slopes are; and "at most 3+3B answers"
   pub each-iteration : (y : Reply) (p q : Last) → report (reachedBy b given) ≡ last p → report (reachedBy b (given ++ (y ∷ []))) ≡ last q → q .iterations ≡ p .iterations + 1
-      → Finished s p (rules.noted (after (rules.begun s ya yb yc) ys) y (rules.under-way [] (rules.begun s ya yb yc) ys)) q
+      → Finished s p (asked-with y) q
   each-iteration y p q e e' n = rules.each-iteration s ya yb yc ys y p q (sym reported-here ∙ e) (sym (reported-next y) ∙ e') n
 
-  module _ (premise : rules.Premise s ya yb yc) where
+  -- each answer leaves the report as it was, or finishes the iteration under way, and then one more is counted
+  pub each-answer : (y : Reply) → Moves (Finished s) (asked-with y) (report (reachedBy b given)) (report (reachedBy b (given ++ (y ∷ []))))
+  each-answer y = rw (reported-here, reported-next y) (rules.each-answer s ya yb yc ys y)
+
+  -- "an iteration takes at most 3+3B answers" (of the rules, and so of the machine, which asks as they do): also one that is not finished, and whether its last answer is finite or not
+  pub iteration-bounded : length asked ≤ 3 + 3 * s .options .budget
+  iteration-bounded = rules.iteration-bounded s ya yb yc ys
+
+  -- the iterations that are reported are those that the answers finished
+  pub iterations-counted : (p : Last) → report (reachedBy b given) ≡ last p → p .iterations ≡ finished-by (rules.begun s ya yb yc) ys
+  iterations-counted p e = rules.iterations-counted s ya yb yc ys p (sym reported-here ∙ e)
+
+  -- N at most, so that the counter never stops
+  pub iterations-bounded : (p : Last) → report (reachedBy b given) ≡ last p → p .iterations ≤ s .options .limit
+  iterations-bounded p e = rules.iterations-bounded s ya yb yc ys p (sym reported-here ∙ e)
+
+  module _ (premise : rules.Premise s ya yb) where
     -- "after each finished iteration the bracket meets the same three, low step < high step"
     pub bracket-stays : (p : Last) → report (reachedBy b given) ≡ last p → Bracketed (s .level) (p .bracket)
     bracket-stays p e = rules.bracketed (report (reachedBy b given)) p (rw reported-here (rules.bracket-stays s ya yb yc (ends-ordered s (new .accepted-setup)) premise ys)) e

@@ -1,5 +1,6 @@
--- The machine's own bookkeeping, which the contracts cite: nobody needs this to check 01. specs/Meaning.antt says what a state stands for in 01's
--- rules, proofs/Bridge.antt that every step is the rules' step, and proofs/Demand2.antt the same for any list of answers.
+-- The machine's own bookkeeping, which the contracts cite. 01's rules are checked without it: specs/Meaning.antt says what a state stands for in them,
+-- proofs/Bridge.antt that every step is the rules' step, and proofs/Demand2.antt the same for any list of answers. specs/Refusals.antt speaks of the move that
+-- it makes due, so as to say of any state when it is refused.
 use Prim.Native.Nat.{ℕ, zero, suc, _-_}
 use mathlib.Core.Bool.{Bool, cond, _&&_}
 use lib.Dec.{leb, eqb}
@@ -14,7 +15,6 @@ use Rattle.outcomes.specs.declared.Refusal.the-variants.{SuppliedNotFinite, Out
 use Rattle.outcomes.specs.Counters.{counted, evaluations, iterations}
 use Rattle.rules.specs.declared.Point.{Point}
 use Rattle.rules.specs.declared.Bracket.{Bracket}
-use Rattle.rules.specs.declared.Params.{Params}
 use Rattle.rules.specs.declared.Options.{Options}
 use Rattle.rules.specs.declared.Setup.{Setup}
 use Rattle.rules.specs.declared.Came.{Came}
@@ -37,7 +37,7 @@ use Rattle.hagerzhang.specs.declared.Waiting.the-variants.{Low, High, St
 use Rattle.hagerzhang.specs.declared.Stage.{Stage}
 use Rattle.hagerzhang.specs.declared.Stage.the-variants.{Open, Over}
 use Rattle.hagerzhang.specs.declared.Move.{Move}
-use Rattle.hagerzhang.specs.declared.Move.the-variants.{Try, Narrow, End}
+use Rattle.hagerzhang.specs.declared.Move.the-variants.{Try, Narrow, Stop as ByVerdict, Limit as ByLimit}
 use Rattle.hagerzhang.specs.declared.Then.{Then}
 use Rattle.hagerzhang.specs.declared.Then.the-variants.{Go, Close}
 use Rattle.hagerzhang.specs.declared.Next.{Next}
@@ -65,18 +65,8 @@ unfoldable pub leftOf : ℕ → Asked → ℕ
 leftOf budget (Update w) = budget
 leftOf budget (Between e) = e .left
 
-unfoldable pub attemptOf : Bracket → Rule → Float → Move
-attemptOf u rule x = cond (finite x) (Try u (trialAt rule x)) (End (Refused StepNotFinite))
-
-unfoldable pub probeOf : Float → Trial → ℕ → Point → Float → Move
-probeOf theta t left h k =
-    let d = middleOf theta h k in
-    cond (eqb left 0) (End (Refused BudgetSpent))
-    (cond (finite d) (cond (h .x <ᶠ d && d <ᶠ k) (Narrow t (ends h k d (left - 1))) (End (Refused StepNotBetween)))
-    (End (Refused StepNotFinite)))
-
 unfoldable pub triedBy : Bracket → Rule → Then → Further → Then
-triedBy u rule otherwise (At x) = Go (attemptOf u rule x)
+triedBy u rule otherwise (At x) = Go (Try u (trialAt rule x))
 triedBy u rule otherwise Nothing = otherwise
 
 abbrev pub afterS4Of : Float → Bracket → Bracket → Then
@@ -93,9 +83,9 @@ followBy gamma w c u ByL2 = Close u
 abbrev pub followOf : Float → Bracket → Trial → Bracket → Then
 followOf gamma w t u = followBy gamma w (t .x) u (t .rule)
 
-unfoldable pub onwardOf : Params → Bracket → Trial → ℕ → Came → Then
-onwardOf p w t left (To u) = followOf (p .gamma) w t u
-onwardOf p w t left (On h k) = Go (probeOf (p .theta) t left h k)
+unfoldable pub onwardOf : Float → Bracket → Trial → ℕ → Came → Then
+onwardOf gamma w t left (To u) = followOf gamma w t u
+onwardOf gamma w t left (On h k) = Go (Narrow t h k left)
 
 abbrev pub openedOf : Bracket → Point → Finished
 openedOf w c = record { bracket = w; start = c; best = bestOf (w .a) (w .b) c; iterations = iterations 0 }
@@ -109,24 +99,41 @@ closedOf last v = record {
 }
 
 unfoldable pub outlookBy : Setup → Finished → Judged → Move
-outlookBy s last (Holds v) = End (Stop v (last .best .x))
+outlookBy s last (Holds v) = ByVerdict v
 outlookBy s last Fails =
-    cond (leb (s .options .limit) (last .iterations .0)) (End (Limit (last .best .x)))
-    (attemptOf (last .bracket) ByS1 (secantOf (last .bracket .a) (last .bracket .b)))
+    cond (leb (s .options .limit) (last .iterations .0)) ByLimit
+    (Try (last .bracket) (trialAt ByS1 (secantOf (last .bracket .a) (last .bracket .b))))
 
 abbrev pub outlookOf : Setup → Finished → Move
 outlookOf s last = outlookBy s last (judgedOf s (last .best))
 
-unfoldable pub madeOf : Finished → Move → Next
-madeOf last (Try u t) = next (Open (Running last t (Update u))) (Ask (t .x))
-madeOf last (Narrow t e) = next (Open (Running last t (Between e))) (Ask (e .d))
-madeOf last (End o) = next (Over (Last last)) o
+abbrev pub endedOf : Finished → Outcome → Next
+endedOf last o = next (Over (Last last)) o
+
+unfoldable pub attemptOf : Finished → Bracket → Trial → Next
+attemptOf last u t =
+    cond (finite (t .x)) (next (Open (Running last t (Update u))) (Ask (t .x))) (endedOf last (Refused StepNotFinite))
+
+unfoldable pub probeOf : Float → Finished → Trial → Point → Float → ℕ → Next
+probeOf theta last t h k left =
+    let d = middleOf theta h k in
+    cond (eqb left 0) (endedOf last (Refused BudgetSpent))
+    (cond (finite d)
+    (cond (h .x <ᶠ d && d <ᶠ k) (next (Open (Running last t (Between (ends h k d (left - 1))))) (Ask d))
+    (endedOf last (Refused StepNotBetween)))
+    (endedOf last (Refused StepNotFinite)))
+
+unfoldable pub madeOf : Float → Finished → Move → Next
+madeOf theta last (Try u t) = attemptOf last u t
+madeOf theta last (Narrow t h k left) = probeOf theta last t h k left
+madeOf theta last (ByVerdict v) = endedOf last (Stop v (last .best .x))
+madeOf theta last ByLimit = endedOf last (Limit (last .best .x))
 
 abbrev pub settledOf : Setup → Finished → Next
-settledOf s last = madeOf last (outlookOf s last)
+settledOf s last = madeOf (s .options .params .theta) last (outlookOf s last)
 
 unfoldable pub wentOf : Setup → Finished → Then → Next
-wentOf s last (Go m) = madeOf last m
+wentOf s last (Go m) = madeOf (s .options .params .theta) last m
 wentOf s last (Close u) = settledOf s (closedOf last u)
 
 unfoldable pub reactOf : Setup → Waiting → Float → Float → Next
@@ -135,7 +142,7 @@ reactOf s (High a) f g = next (Open (Start (bracket a (point (s .options .params
 reactOf s (Start w) f g = settledOf s (openedOf w (point (s .options .params .start) f g))
 reactOf s (Running last t asked) f g =
     wentOf s last
-    (onwardOf (s .options .params) (last .bracket) t (leftOf (s .options .budget) asked) (comesOf (s .level) t asked f g))
+    (onwardOf (s .options .params .gamma) (last .bracket) t (leftOf (s .options .budget) asked) (comesOf (s .level) t asked f g))
 
 unfoldable pub keptOf : Waiting → Kept
 keptOf Low = NoneYet

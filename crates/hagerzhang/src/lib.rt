@@ -5,17 +5,17 @@ use outcomes::Evaluations;
 use outcomes::Iterations;
 use outcomes::Outcome;
 use outcomes::Refusal;
+use outcomes::Verdict;
 use rules::Bracket;
 use rules::Came;
 use rules::Further;
 use rules::Judged;
 use rules::Options;
-use rules::Params;
 use rules::Point;
 use rules::Setup;
 ghost use mathlib.Core.Path.{_≡_};
 ghost use Prim.Native.Nat.{_<_};
-ghost use Rattle.hagerzhang.specs.Machine.{fresh, startOf, comesOf, leftOf, attemptOf, probeOf, afterS4Of, afterS1Of, followOf, onwardOf, openedOf, closedOf, outlookOf, madeOf, settledOf, reactOf, keptOf, takenOf, answerOf};
+ghost use Rattle.hagerzhang.specs.Machine.{fresh, startOf, comesOf, leftOf, afterS4Of, afterS1Of, followOf, onwardOf, openedOf, closedOf, outlookOf, endedOf, attemptOf, probeOf, madeOf, settledOf, reactOf, keptOf, takenOf, answerOf};
 ghost use Rattle.hagerzhang.specs.Meaning.{Starts, Follows};
 
 // ---- the state
@@ -116,46 +116,12 @@ fn left(budget: u32, asked: Asked) -> u32
     }
 }
 
-// What the search does next: it asks a trial, it asks a step of U3, or it is over.
+// What is due next: a trial's step, a step of U3 between h and k while so many answers may come, or the end by a verdict or the limit.
 enum Move {
     Try(Bracket, Trial),
-    Narrow(Trial, Ends),
-    End(Outcome),
-}
-
-// A trial is asked where its step is finite (5).
-fn attempt(u: Bracket, rule: Rule, x: f64) -> Move
-    ensures { λ r. ⌜ r ≡ attemptOf u rule x ⌝ }
-{
-    if numbers::is_finite(x) {
-        return Move::Try(u, Trial { rule, x });
-    }
-    Move::End(Outcome::Refused(Refusal::StepNotFinite))
-}
-
-// U3's next step is asked where an answer may still come (6) and it is finite (5) and strictly between the ends (7).
-fn probe(theta: f64, t: Trial, left: u32, h: Point, k: f64) -> Move
-    ensures { λ r. ⌜ r ≡ probeOf theta t left h k ⌝ }
-{
-    if left == 0 {
-        return Move::End(Outcome::Refused(Refusal::BudgetSpent));
-    }
-    let d = rules::middle(theta, h, k);
-    if !numbers::is_finite(d) {
-        return Move::End(Outcome::Refused(Refusal::StepNotFinite));
-    }
-    if (h.x < d) & (d < k) {
-        return Move::Narrow(
-            t,
-            Ends {
-                h,
-                k,
-                d,
-                left: left - 1,
-            },
-        );
-    }
-    Move::End(Outcome::Refused(Refusal::StepNotBetween))
+    Narrow(Trial, Point, f64, u32),
+    Stop(Verdict),
+    Limit,
 }
 
 // What follows in the iteration: a move, or its end with a bracket.
@@ -169,7 +135,7 @@ fn after_s4(gamma: f64, w: Bracket, v: Bracket) -> Then
     ensures { λ r. ⌜ r ≡ afterS4Of gamma w v ⌝ }
 {
     match rules::l2(gamma, w, v) {
-        Further::At(x) => Then::Go(attempt(v, Rule::L2, x)),
+        Further::At(x) => Then::Go(Move::Try(v, Trial { rule: Rule::L2, x })),
         Further::Nothing => Then::Close(v),
     }
 }
@@ -179,7 +145,7 @@ fn after_s1(gamma: f64, w: Bracket, c: f64, u: Bracket) -> Then
     ensures { λ r. ⌜ r ≡ afterS1Of gamma w c u ⌝ }
 {
     match rules::s4(w, c, u) {
-        Further::At(x) => Then::Go(attempt(u, Rule::S4, x)),
+        Further::At(x) => Then::Go(Move::Try(u, Trial { rule: Rule::S4, x })),
         Further::Nothing => after_s4(gamma, w, u),
     }
 }
@@ -197,12 +163,12 @@ fn follow(gamma: f64, w: Bracket, t: Trial, u: Bracket) -> Then
 }
 
 // (2) What follows in the iteration.
-fn onward(p: Params, w: Bracket, t: Trial, left: u32, came: Came) -> Then
-    ensures { λ r. ⌜ r ≡ onwardOf p w t left came ⌝ }
+fn onward(gamma: f64, w: Bracket, t: Trial, left: u32, came: Came) -> Then
+    ensures { λ r. ⌜ r ≡ onwardOf gamma w t left came ⌝ }
 {
     match came {
-        Came::To(u) => follow(p.gamma, w, t, u),
-        Came::On(h, k) => Then::Go(probe(p.theta, t, left, h, k)),
+        Came::To(u) => follow(gamma, w, t, u),
+        Came::On(h, k) => Then::Go(Move::Narrow(t, h, k, left)),
     }
 }
 
@@ -240,33 +206,75 @@ fn outlook(s: Setup, last: Finished) -> Move
 {
     let w = last.bracket;
     match rules::judge(s, last.best) {
-        Judged::Holds(v) => Move::End(Outcome::Stop(v, last.best.x)),
+        Judged::Holds(v) => Move::Stop(v),
         Judged::Fails => {
             if s.options.limit <= last.iterations.0 {
-                return Move::End(Outcome::Limit(last.best.x));
+                return Move::Limit;
             }
-            attempt(w, Rule::S1, rules::secant(w.a, w.b))
+            let x = rules::secant(w.a, w.b);
+            Move::Try(w, Trial { rule: Rule::S1, x })
         }
     }
 }
 
-// (4) The next state, and what is said. A refusal keeps what the last finished iteration left.
-fn made(last: Finished, m: Move) -> Next
-    ensures { λ r. ⌜ r ≡ madeOf last m ⌝ }
+// The end. It keeps what the last finished iteration left.
+fn ended(last: Finished, outcome: Outcome) -> Next
+    ensures { λ r. ⌜ r ≡ endedOf last outcome ⌝ }
 {
-    match m {
-        Move::Try(u, t) => Next {
+    Next {
+        stage: Stage::Over(Kept::Last(last)),
+        outcome,
+    }
+}
+
+// A trial is asked where its step is finite (5).
+fn attempt(last: Finished, u: Bracket, t: Trial) -> Next
+    ensures { λ r. ⌜ r ≡ attemptOf last u t ⌝ }
+{
+    if numbers::is_finite(t.x) {
+        return Next {
             stage: Stage::Open(Waiting::Running(last, t, Asked::Update(u))),
             outcome: Outcome::Ask(t.x),
-        },
-        Move::Narrow(t, e) => Next {
+        };
+    }
+    ended(last, Outcome::Refused(Refusal::StepNotFinite))
+}
+
+// U3's next step is asked where an answer may still come (6) and it is finite (5) and strictly between the ends (7).
+fn probe(theta: f64, last: Finished, t: Trial, h: Point, k: f64, left: u32) -> Next
+    ensures { λ r. ⌜ r ≡ probeOf theta last t h k left ⌝ }
+{
+    if left == 0 {
+        return ended(last, Outcome::Refused(Refusal::BudgetSpent));
+    }
+    let d = rules::middle(theta, h, k);
+    if !numbers::is_finite(d) {
+        return ended(last, Outcome::Refused(Refusal::StepNotFinite));
+    }
+    if (h.x < d) & (d < k) {
+        let e = Ends {
+            h,
+            k,
+            d,
+            left: left - 1,
+        };
+        return Next {
             stage: Stage::Open(Waiting::Running(last, t, Asked::Between(e))),
-            outcome: Outcome::Ask(e.d),
-        },
-        Move::End(outcome) => Next {
-            stage: Stage::Over(Kept::Last(last)),
-            outcome,
-        },
+            outcome: Outcome::Ask(d),
+        };
+    }
+    ended(last, Outcome::Refused(Refusal::StepNotBetween))
+}
+
+// (4) What is due is tested (5, 6, 7), and asked.
+fn made(theta: f64, last: Finished, m: Move) -> Next
+    ensures { λ r. ⌜ r ≡ madeOf theta last m ⌝ }
+{
+    match m {
+        Move::Try(u, t) => attempt(last, u, t),
+        Move::Narrow(t, h, k, left) => probe(theta, last, t, h, k, left),
+        Move::Stop(v) => ended(last, Outcome::Stop(v, last.best.x)),
+        Move::Limit => ended(last, Outcome::Limit(last.best.x)),
     }
 }
 
@@ -274,7 +282,7 @@ fn made(last: Finished, m: Move) -> Next
 fn settled(s: Setup, last: Finished) -> Next
     ensures { λ r. ⌜ r ≡ settledOf s last ⌝ }
 {
-    made(last, outlook(s, last))
+    made(s.options.params.theta, last, outlook(s, last))
 }
 
 fn react(s: Setup, waiting: Waiting, f: f64, g: f64) -> Next
@@ -297,8 +305,8 @@ fn react(s: Setup, waiting: Waiting, f: f64, g: f64) -> Next
         Waiting::Running(last, t, asked) => {
             let w = last.bracket;
             let n = left(s.options.budget, asked);
-            match onward(p, w, t, n, comes(s.level, t, asked, f, g)) {
-                Then::Go(m) => made(last, m),
+            match onward(p.gamma, w, t, n, comes(s.level, t, asked, f, g)) {
+                Then::Go(m) => made(p.theta, last, m),
                 Then::Close(u) => settled(s, closed(last, u)),
             }
         }

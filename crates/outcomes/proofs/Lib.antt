@@ -2,3 +2,4 @@ pub mod Branches
 pub mod Ends
 pub mod Machines
 pub mod Determined
+pub mod Refusals

@@ -1,7 +1,7 @@
 -- 01, "What changes shape": "the search hands out a request and is given the answer .. One ask covers cost and slope." The rules of a search are
 -- written as a run: it asks for cost and slope at a step and goes on by the answer, until it has a result.
 use Prim.Native.Nat.{ℕ, _+_}
-use mathlib.Core.Bool.{Bool, true, false, cond}
+use mathlib.Core.Bool.{Bool, true, false, cond, not}
 use mathlib.Core.List.{List, [], _∷_}
 use lib.Ieee.{Float}
 use Rattle.numbers.specs.Answers.{Answer, value, refused}
@@ -70,11 +70,15 @@ module _ {K : Type 0} where
   after r [] = r
   after r (y ∷ ys) = after (respond r (y .0) (y .1)) ys
 
-  -- 01: "Evaluations count every finite answer accepted": those given while the search asks, of which the test says that they are finite
+  -- 01: "Evaluations count every finite answer accepted": those given while the search asks that pass the test
   unfoldable pub accepted : (Float → Float → Bool) → Search K → List Reply → ℕ
   accepted finite r [] = 0
   accepted finite (end o) (y ∷ ys) = 0
   accepted finite (ask k x then) (y ∷ ys) = cond (finite (y .0) (y .1)) 1 0 + accepted finite (then (y .0) (y .1)) ys
+
+  -- and those given while it asks that do not
+  abbrev pub notFinite : (Float → Float → Bool) → Search K → List Reply → ℕ
+  notFinite finite r ys = accepted (λ f g. not (finite f g)) r ys
 
 -- 01, refusal 2: a step is asked; an answer that is not finite, by the search's test, is refused
 module _ {K R : Type 0} (finite : Float → Float → Bool) (refuse : ℕ → R) (k : K) where

@@ -1,3 +1,4 @@
 pub mod Outcomes
 pub mod Asking
 pub mod Counters
+pub mod Refusals

@@ -1,7 +1,8 @@
 pub mod MarkedSums
 pub mod Unreachable
-pub mod Bounds
 pub mod Iterations
 pub mod StaysBracket
 pub mod EachIteration
+pub mod Along
+pub mod Bounds
 pub mod Demand3

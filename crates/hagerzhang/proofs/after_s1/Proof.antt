@@ -7,7 +7,7 @@ use Rattle.hagerzhang.proofs.after_s1.Tie as tie
 
 returns : tie.Need-returns
 unfolding triedBy
-returns c = rw (sym (c .before .before .before .before .s4 .ensures) ∙ c .before .before .x .given .1) (rw (c .attempt .ensures))
+returns c = rw (sym (c .before .before .before .s4 .ensures) ∙ c .before .x .given .1)
 
 returns-2 : tie.Need-returns-2
 unfolding triedBy
@@ -15,12 +15,4 @@ returns-2 c = rw (sym (c .before .before .before .s4 .ensures) ∙ c .before .en
 
 pub after-s1-spec : {M : Type 1} → statement M
 after-s1-spec =
-    tie.close
-    (tie.spec
-    (λ c κs. search needs)
-    (λ c. search needs)
-    (λ c κs. search needs)
-    (λ c. search needs)
-    (λ c κs. search needs)
-    returns
-    returns-2)
+    tie.close (tie.spec (λ c κs. search needs) (λ c. search needs) (λ c. search needs) (λ c κs. search needs) returns returns-2)

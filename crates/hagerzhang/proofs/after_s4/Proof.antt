@@ -7,12 +7,11 @@ use Rattle.hagerzhang.proofs.after_s4.Tie as tie
 
 returns : tie.Need-returns
 unfolding triedBy
-returns c = rw (sym (c .before .before .before .before .l2 .ensures) ∙ c .before .before .x .given .1) (rw (c .attempt .ensures))
+returns c = rw (sym (c .before .before .before .l2 .ensures) ∙ c .before .x .given .1)
 
 returns-2 : tie.Need-returns-2
 unfolding triedBy
 returns-2 c = rw (sym (c .before .before .l2 .ensures) ∙ c .enum-told .given .1)
 
 pub after-s4-spec : {M : Type 1} → statement M
-after-s4-spec =
-    tie.close (tie.spec (λ c κs. search needs) (λ c. search needs) (λ c κs. search needs) (λ c. search needs) returns returns-2)
+after-s4-spec = tie.close (tie.spec (λ c κs. search needs) (λ c. search needs) (λ c. search needs) returns returns-2)

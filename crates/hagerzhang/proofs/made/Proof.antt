@@ -7,16 +7,33 @@ use Rattle.hagerzhang.proofs.made.Tie as tie
 
 returns : tie.Need-returns
 unfolding madeOf
-returns c = search (tests, c .before .m .given .1)
+returns c = search (tests, c .attempt .ensures, c .before .before .m .given .1)
 
 returns-2 : tie.Need-returns-2
 unfolding madeOf
-returns-2 c = search (tests, c .before .m2 .given .1)
+returns-2 c = search (tests, c .probe .ensures, c .before .before .m2 .given .1)
 
 returns-3 : tie.Need-returns-3
 unfolding madeOf
-returns-3 c = search (tests, c .before .m3 .given .1)
+returns-3 c = search (tests, c .ended .ensures, c .before .before .m3 .given .1)
+
+returns-4 : tie.Need-returns-4
+unfolding madeOf
+returns-4 c = search (tests, c .ended2 .ensures, c .before .enum-told .given .1)
 
 pub made-spec : {M : Type 1} → statement M
 made-spec =
-    tie.close (tie.spec (λ c. search needs) (λ c. search needs) (λ c. search needs) returns returns-2 returns-3)
+    tie.close
+    (tie.spec
+    (λ c. search needs)
+    (λ c κs. search needs)
+    (λ c. search needs)
+    (λ c κs. search needs)
+    (λ c. search needs)
+    (λ c κs. search needs)
+    (λ c. search needs)
+    (λ c κs. search needs)
+    returns
+    returns-2
+    returns-3
+    returns-4)

@@ -11,9 +11,8 @@ returns c = search (tests, c .follow .ensures, c .before .before .came .given .1
 
 returns-2 : tie.Need-returns-2
 unfolding onwardOf
-returns-2 c = search (tests, c .probe .ensures, c .before .before .came2 .given .1)
+returns-2 c = search (tests, c .before .came2 .given .1)
 
 pub onward-spec : {M : Type 1} → statement M
 onward-spec =
-    tie.close
-    (tie.spec (λ c. search needs) (λ c κs. search needs) (λ c. search needs) (λ c κs. search needs) returns returns-2)
+    tie.close (tie.spec (λ c. search needs) (λ c κs. search needs) (λ c. search needs) returns returns-2)

@@ -1,0 +1,39 @@
+-- 01's table "Numbers in, numbers refused", as the definitions of the crates above fill it: rows with their "given exactly when", in 01's order.
+use Prim.Native.Nat.{ℕ}
+use mathlib.Core.Path.{_≡_}
+use mathlib.Core.Bool.{Bool, true, false, cond}
+use mathlib.Core.List.{List, [], _∷_}
+use mathlib.Core.Option.{Option, none, some}
+use lib.Dec.{eqb}
+use Rattle.outcomes.specs.Outcomes.{stop, limit, refusal, Told, asks, ends}
+
+-- a row: the number, and whether its condition holds
+abbrev pub Row : Type 0
+Row = ℕ × Bool
+
+-- "8 before all; then 1, 9, 2, 3, 4 in that order"; "6 comes before 5 and 7; 5 comes before 7"
+abbrev pub order : List ℕ
+order = 8 ∷ 1 ∷ 9 ∷ 2 ∷ 3 ∷ 4 ∷ 6 ∷ 5 ∷ 7 ∷ []
+
+-- the first of the rows whose condition holds gives its number
+unfoldable pub given : List Row → Option ℕ
+given [] = none
+given (r ∷ rows) = cond (r .1) (some (r .0)) (given rows)
+
+-- whether the rows come in that order
+unfoldable pub inOrder : List ℕ → List Row → Bool
+inOrder numbers [] = true
+inOrder [] (r ∷ rows) = false
+inOrder (n ∷ numbers) (r ∷ rows) = cond (eqb n (r .0)) (inOrder numbers rows) (inOrder numbers (r ∷ rows))
+
+-- refused by a table, or not at all: what is given, if anything, is the first row's number that applies, and the rows come in 01's order
+pub record Table (number : Option ℕ) (rows : List Row) : Type 0 where
+  pub exactly : number ≡ given rows
+  pub ordered : inOrder order rows ≡ true
+
+-- the number in what is told, where that is a refusal
+abbrev pub refusalIn : Told → Option ℕ
+refusalIn (asks x) = none
+refusalIn (ends (stop w x)) = none
+refusalIn (ends (limit x)) = none
+refusalIn (ends (refusal n)) = some n
