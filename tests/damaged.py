@@ -19,11 +19,10 @@ import time
 import make_backtracking_vectors as backtracking
 import make_cases_list as cases
 import make_hagerzhang_vectors as hagerzhang
-from exact import NAN, Random, bits, is_finite, is_nan
+from exact import NAN, Random, is_finite, is_nan
 
 LIMIT_SECONDS = 10
 MODEL_STEPS = 300
-F = lambda x: bits(float(x))
 
 NUMBER = "[0-9A-F]{16}"
 COUNTS = "evaluations [0-9]{1,10} iterations [0-9]{1,10}"
