@@ -1,14 +1,15 @@
 -- Text after text is the text of both. Assumes nothing.
 use mathlib.Core.Path.{_≡_, refl, ap, sym, _∙_}
 use mathlib.Core.List.{List, [], _∷_, _++_, foldl-append}
-use Prim.Native.Nat.{ℕ, _+_, _<_, _≤_}
+use Prim.Native.Nat.{ℕ, suc, _+_, _<_, _≤_}
+use native.Mathlib.Nat.{add-zero, add-suc, suc-add, le-trans, le-add-right}
 use native.Mathlib.Numerals.{add-one}
 use mathlib.Core.Bool.{Bool, true, false, cond}
-use borrow.Author.Tests.{ltb-true}
+use borrow.Author.Tests.{lt-ltb, ltb-true}
 use native.Mathlib.Omega.{arith}
 use lib.Dec.{ltb}
-use lib.ListN.{length, getD, take, set, length-set}
-use lib.Seq.{take-suc, take-all}
+use lib.ListN.{length, getD, take, drop, set, length-set}
+use lib.Seq.{take-suc, take-all, sets, sets-eq}
 use Rattle.text.specs.Text.{Page, page, put, write}
 
 pub nothing : (p : Page) → p ≡ write p []
@@ -27,6 +28,25 @@ then-byte p w i h first next = rw (add-one, take-suc w i 0 h) (then p (take i w)
 pub whole : (p : Page) {q : Page} (w : List ℕ) (i : ℕ) → length w ≤ i → q ≡ write p (take i w) → q ≡ write p w
 whole p w i h e = e ∙ ap (write p) (take-all i w h)
 
+-- ---- where there is room, the text stands at its place and all else is as it was
+
+put-at : (held : List ℕ) (at b : ℕ) → at < length held → put (page held at) b ≡ page (set held at b) (suc at)
+put-at held at b h = rw (lt-ltb at (length held) h, add-one)
+
+-- one store for each byte
+stores : (text held : List ℕ) (at : ℕ) → at + length text ≤ length held → write (page held at) text ≡ page (sets held at text) (at + length text)
+unfolding write
+stores [] held at h = rw add-zero
+stores (b ∷ text) held at h =
+    let e : at + suc (length text) ≡ suc at + length text = add-suc at (length text) ∙ sym (suc-add at (length text)) in
+    let fits : suc at + length text ≤ length held = rw e at h in
+    let more : suc at + length text ≤ length (set held at b) = rw length-set fits in
+    rw (put-at held at b (le-trans (le-add-right (suc at) (length text)) fits), e) (stores text (set held at b) (suc at) more)
+
+pub with-room : (held text : List ℕ) (at : ℕ) → at + length text ≤ length held
+    → write (page held at) text ≡ page (take at held ++ text ++ drop (at + length text) held) (at + length text)
+with-room held text at h = stores text held at h ∙ ap (λ l. page l (at + length text)) (sets-eq text held at h)
+
 -- ---- the place stays within the buffer
 
 step-within : (held : List ℕ) (at b : ℕ) (room : Bool) → ltb at (length held) ≡ room → at ≤ length held
@@ -38,3 +58,7 @@ pub within : (p : Page) (t : List ℕ) → p .at ≤ length (p .held) → write 
 unfolding write
 within p [] h = h
 within p (b ∷ t) h = within (put p b) t (step-within (p .held) (p .at) b (ltb (p .at) (length (p .held))) refl h)
+
+-- ---- a contract that gives the page gives both the buffer and the place
+pub told : (a b : List ℕ) (i j : ℕ) → page a i ≡ page b j → (a ≡ b) × (i ≡ j)
+told a b i j e = (ap (λ p. p .held) e, ap (λ p. p .at) e)

@@ -1,0 +1,42 @@
+-- The fields of a case file: "one-byte tag, two-byte length, body, most significant byte first, floats as their 64 bits". Each definition takes the
+-- bytes from where a field begins: all that are left, or at least as many as the longest well-formed field has.
+use Prim.Native.Nat.{ℕ, _+_, _*_}
+use mathlib.Core.Bool.{Bool, cond, _&&_}
+use mathlib.Core.List.{List}
+use lib.Dec.{ltb, leb, eqb}
+use lib.ListN.{length, drop}
+use Rattle.wire.specs.Wire.{byteAt, pairOf}
+use Rattle.case_fields.specs.declared.Field.{Field}
+use Rattle.case_fields.specs.declared.Field.the-variants.{StartHagerZhang, StartBacktracking, Answer, Dot, Point, Malformed}
+
+-- "condition 1 Armijo, 2 Goldstein, 3 Wolfe, 4 strong Wolfe in one byte"
+abbrev pub isCondition : ℕ → Bool
+isCondition k = leb 1 k && leb k 4
+
+-- "Each length in 34 and 35 is at most 511."
+abbrev pub isLength : ℕ → Bool
+isLength n = leb n 511
+
+-- "dot: two-byte n, two-byte m, n floats, m floats"
+unfoldable pub dotField : ℕ → ℕ → ℕ → Field
+dotField size n m = cond (isLength n && isLength m && eqb size (4 + 8 * (n + m))) (Dot n m) Malformed
+
+-- "point: two-byte lengths of x0, d and out; alpha; x0; d"
+unfoldable pub pointField : ℕ → ℕ → ℕ → ℕ → Field
+pointField size n m k = cond (isLength n && isLength m && isLength k && eqb size (14 + 8 * (n + m))) (Point n m k) Malformed
+
+-- a field by its tag; `searching`: there is "a tag 32 or 33 before it", and no 34 or 35 since
+unfoldable pub taggedField : ℕ → ℕ → List ℕ → Bool → Field
+taggedField tag size body searching =
+    cond (eqb tag 17) (cond (searching && eqb size 16) Answer Malformed)
+    (cond (eqb tag 32) (cond (eqb size 96) StartHagerZhang Malformed)
+    (cond (eqb tag 33) (cond (eqb size 53 && isCondition (byteAt body 0)) StartBacktracking Malformed)
+    (cond (eqb tag 34) (dotField size (pairOf body) (pairOf (drop 2 body)))
+    (cond (eqb tag 35) (pointField size (pairOf body) (pairOf (drop 2 body)) (pairOf (drop 4 body))) Malformed))))
+
+-- "a field cut by the end of the input" is malformed, whatever its tag
+unfoldable pub readOf : List ℕ → Bool → Field
+readOf s searching =
+    let size = pairOf (drop 1 s) in
+    let body = drop 3 s in
+    cond (ltb (length s) 3) Malformed (cond (ltb (length body) size) Malformed (taggedField (byteAt s 0) size body searching))

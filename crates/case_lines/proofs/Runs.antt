@@ -1,0 +1,25 @@
+-- A run of numbers is written one by one. Assumes nothing.
+use mathlib.Core.Path.{_≡_, refl, sym, ap, _∙_}
+use mathlib.Core.List.{List, [], _∷_, _++_, append-assoc}
+use Prim.Native.Nat.{ℕ, _+_, _<_, _≤_}
+use native.Mathlib.Numerals.{add-one}
+use lib.Ieee.{Float, nan}
+use lib.ListN.{length, getD, take}
+use lib.Seq.{take-suc, take-all}
+use Rattle.text.specs.Text.{Page, write}
+use Rattle.text.proofs.Writing.{then}
+use Rattle.lines.specs.Lines.{nextText}
+use Rattle.case_lines.specs.CaseLines.{numbersText}
+
+both : (xs ys : List Float) → numbersText (xs ++ ys) ≡ numbersText xs ++ numbersText ys
+both [] ys = refl
+both (x ∷ xs) ys = ap (λ t. nextText x ++ t) (both xs ys) ∙ sym (append-assoc (nextText x) (numbersText xs) (numbersText ys))
+
+-- the first i numbers, and one more
+pub then-number : (p : Page) {q r : Page} (xs : List Float) (i : ℕ) → i < length xs → q ≡ write p (numbersText (take i xs))
+    → r ≡ write q (nextText (getD xs i nan)) → r ≡ write p (numbersText (take (i + 1) xs))
+then-number p xs i h first next =
+    rw (add-one, take-suc xs i nan h, both (take i xs) (getD xs i nan ∷ [])) (then p _ _ first next)
+
+pub all-numbers : (p : Page) {q : Page} (xs : List Float) (i : ℕ) → length xs ≤ i → q ≡ write p (numbersText (take i xs)) → q ≡ write p (numbersText xs)
+all-numbers p xs i h e = e ∙ ap (λ l. write p (numbersText l)) (take-all i xs h)

@@ -1,0 +1,21 @@
+-- `case_lines::value` meets its contract. Assumes nothing.
+use borrow.Author.Needs.{needs}
+use Rattle.text.proofs.Writing.{then}
+use Rattle.case_lines.proofs.value.Statement.{statement}
+use Rattle.case_lines.proofs.value.Tie as tie
+
+returns : tie.Need-returns
+returns c =
+    then _ _ _ (then _ _ _ (c .before .before .before .before .before .before .before .before .before .before .before .word .ensures) (c .before .before .before .before .before .before .before .float .ensures)) (c .before .before .word2 .ensures)
+
+pub value-spec : {M : Type 1} → statement M
+value-spec =
+    tie.close
+    (tie.spec
+    (λ c. search needs)
+    (λ c κs. search needs)
+    (λ c κs. search needs)
+    (λ c. search needs)
+    (λ c κs. search needs)
+    (λ c. search needs)
+    returns)
