@@ -20,6 +20,17 @@ use Rattle.conditions.specs.declared.Checked.{Checked}
 use Rattle.conditions.specs.Conditions.{checkedOf}
 use Rattle.conditions.specs.Told.{checkedTold}
 use Rattle.conditions.proofs.Determined.{checked-determined}
+use Rattle.curves.specs.declared.Curve.{Curve}
+use Rattle.text.specs.Text.{Page, page}
+use Rattle.text.proofs.Writing.{told as same-page}
+use Rattle.jobs.specs.declared.Reading.{Reading}
+use Rattle.jobs.specs.declared.Opened.{Opened}
+use Rattle.jobs.specs.Reader.{jobOf, readTold}
+use Rattle.jobs.specs.Start.{beginOf, openedTold}
+use Rattle.jobs.proofs.Determined.{read-determined, begin-determined}
+use Rattle.play.specs.declared.Played.{Played}
+use Rattle.play.specs.declared.Written.{Written}
+use Rattle.play.proofs.Determined.{Allowed, play-determined}
 use Rattle.backtracking.specs.declared.Setup.{Setup as Trials}
 use Rattle.backtracking.specs.declared.Backtracking.{Backtracking}
 use Rattle.backtracking.specs.declared.Step.{Step as Trials·Step}
@@ -61,6 +72,13 @@ pub record Determined : Type 0 where
       → PointSaid x0 alpha d held r now → PointSaid x0 alpha d held q later → (r ≡ q) × (now ≡ later)
   pub checked : (C : Condition) (r q : Checked) → checkedTold r ≡ checkedOf C → checkedTold q ≡ checkedOf C → r ≡ q
   pub numbered : (n : ℕ) (r q : Known) → curveTold r ≡ numberedOf n → curveTold q ≡ numberedOf n → r ≡ q
+  -- a job, and the search that it begins
+  pub reading : (bytes : List ℕ) (r q : Reading) → readTold r ≡ jobOf bytes → readTold q ≡ jobOf bytes → r ≡ q
+  pub opening : (bytes : List ℕ) (r q : Opened) → openedTold r ≡ beginOf bytes → openedTold q ≡ beginOf bytes → r ≡ q
+  -- what is left of a play, the place behind what was written, and the buffer; and so of everything that writes to a lent page
+  pub play : (c : Curve) (from : Played) (turns : ℕ) (before : List ℕ) (at : ℕ) (r q : Written) (a b : List ℕ)
+      → Allowed c from turns before at r a → Allowed c from turns before at q b → (r ≡ q) × (a ≡ b)
+  pub writing : (p : Page) (a b : List ℕ) (i j : ℕ) → page a i ≡ p → page b j ≡ p → (a ≡ b) × (i ≡ j)
   -- next state and outcome of the searches
   pub trials-start : (s : Trials) (r q : Trials·Started) → r ≡ trials.startOf s → q ≡ trials.startOf s → r ≡ q
   pub trials-answer : (b : Backtracking) (f g : Float) (r q : Trials·Step) → r ≡ trials.answerOf b f g → q ≡ trials.answerOf b f g → r ≡ q
@@ -75,6 +93,10 @@ all-determined = record {
   point = same-point;
   checked = λ C. law checkedTold checked-determined (checkedOf C);
   numbered = λ n. law curveTold numbered-determined (numberedOf n);
+  reading = λ bytes. law readTold read-determined (jobOf bytes);
+  opening = λ bytes. law openedTold begin-determined (beginOf bytes);
+  play = play-determined;
+  writing = λ p a b i j e e'. same-page a b i j (e ∙ sym e');
   trials-start = λ s. of-equation (trials.startOf s);
   trials-answer = λ b f g. of-equation (trials.answerOf b f g);
   start = λ o f0 s0. of-equation (startOf o f0 s0);

@@ -18,7 +18,8 @@ use Rattle.numbers.specs.Answers.{Answer, value, refused, unless_refuse_else_}
 use Rattle.numbers.specs.declared.PointResult.{PointResult}
 use Rattle.numbers.specs.Numbers.{sized, allFinite, products, leftSum, dotOf, moved, pointOf, heldAfter}
 use Rattle.numbers.specs.Told.{pointTold}
-use Rattle.curves.specs.Curves.{curveAt, numberedOf}
+use Rattle.curves.specs.declared.Curve.{Curve}
+use Rattle.curves.specs.Curves.{curveAt, valueOf, slopeOf, numberedOf}
 use Rattle.outcomes.specs.Refusals.{given, inOrder, Table, refusalIn}
 use Rattle.conditions.specs.declared.Condition.{Condition}
 use Rattle.conditions.specs.Conditions as conditions
@@ -38,13 +39,19 @@ use Rattle.backtracking.specs.Backtracking as backtracking
 use Rattle.backtracking.specs.Machine.{madeOf, triedOf, answerBy, answerOf, startOf}
 use Rattle.backtracking.specs.Meaning as trials
 use Rattle.rules.specs.declared.Options.{Options}
+use Rattle.rules.specs.Parameters.{paramsFinite, inRanges, epsilonK, levelOf, setupOf}
+use Rattle.rules.specs.Rules.{answerFinite}
+use Rattle.jobs.specs.declared.Job.{Job}
+use Rattle.jobs.specs.Format.{optionsOf, decoded}
+use Rattle.jobs.specs.Reader.{found, behind, jobOf}
+use Rattle.jobs.specs.Start.{hasCurve, curveOf, f0Of, s0Of, admittedOf, beginsWith, beginsBy, beginOf}
 use Rattle.hagerzhang.specs.declared.Search.{Search}
 use Rattle.hagerzhang.specs.Machine as machine
 use Rattle.hagerzhang.specs.Meaning as searches
-use Rattle.hagerzhang.specs.Refusals.{startRows}
-use Rattle.hagerzhang.proofs.Refusals.{start-refused, start-none, Answered, answer-table}
+use Rattle.hagerzhang.specs.Refusals.{startRows, isOver}
+use Rattle.hagerzhang.proofs.Refusals.{start-refused, start-none, Answered, answer-table, non-finite-refused}
 use Rattle.demands.proofs.Determined.{PointSaid}
-use Rattle.demands.specs.Refusals.{badLength, dotRows, pointRows, conditionRows, curveRows, trialsStartRows, triedOut, nextTrial, trialDue, notFinite, trialsRows, trialsKept}
+use Rattle.demands.specs.Refusals.{badLength, dotRows, pointRows, conditionRows, curveRows, jobRows, trialsStartRows, triedOut, nextTrial, trialDue, notFinite, trialsRows, trialsKept}
 
 -- ---- an answer that is a value or a refusal
 abbrev pub refusedBy : {A : Type 0} → Answer A → Option ℕ
@@ -115,6 +122,38 @@ in-range false q v = refl
 curve-refused : (n : ℕ) → refusedBy (numberedOf n) ≡ given (curveRows n)
 unfolding given
 curve-refused n = rw (is-zero n, above n 8) (in-range (leb 1 n) (leb n 8) (curveAt ((n - 1) * 5)))
+
+-- ---- a job
+by-setup : (j : Job) (a b d : Bool) → refusedBy (beginsWith (curveOf j) (unless a refuse 2 else unless b refuse 3 else unless d refuse 4 else value (setupOf (j .options) (f0Of j) (s0Of j))))
+    ≡ cond (not a) (some 2) (cond (not b) (some 3) (cond (not d) (some 4) none))
+by-setup j true true true = refl
+by-setup j true true false = refl
+by-setup j true false d = refl
+by-setup j false b d = refl
+
+-- what is no job is 9
+job-table : (a : Answer Job) → ((n : ℕ) → a ≡ refused n → n ≡ 9) → Table (refusedBy (beginsBy a)) (jobRows a)
+unfolding given inOrder admittedOf
+job-table (refused n) nine = record { exactly = ap some (nine n refl); ordered = refl }
+job-table (value j) nine = record {
+  exactly = by-setup j (paramsFinite (j .options .params)) (hasCurve j && inRanges (j .options)) (finite (epsilonK (j .options) (f0Of j)) && finite (levelOf (j .options) (f0Of j)));
+  ordered = refl;
+}
+
+decoded-nine : (b : Bool) (body : Option (List ℕ)) (o : Options) (n : ℕ) → cond b (decoded body o) (refused 9) ≡ refused n → n ≡ 9
+unfolding decoded
+decoded-nine true none o n e = sym (Option·some-injective 9 n (ap refusedBy e))
+decoded-nine true (some body) o n e = none-refused n (ap refusedBy e)
+decoded-nine false body o n e = sym (Option·some-injective 9 n (ap refusedBy e))
+
+only-nine : (s1 : List ℕ) (n : ℕ) → jobOf s1 ≡ refused n → n ≡ 9
+only-nine s1 n =
+    let s2 = behind 1 1 s1 in
+    let s3 = behind 2 16 s2 in
+    let s4 = behind 3 8 s3 in
+    let s5 = behind 4 8 s4 in
+    let s6 = behind 5 2 s5 in
+    decoded-nine (eqb (length (behind 6 2 s6)) 0) (found 1 1 s1) (optionsOf (found 2 16 s2) (found 3 8 s3) (found 4 8 s4) (found 5 2 s5) (found 6 2 s6)) n
 
 -- ---- backtracking
 trials-starts : (s : Trials) (a b : Bool)
@@ -213,6 +252,8 @@ pub record EveryCall : Type 0 where
   -- 2, 3, 4, and "no search"
   pub condition : (C : Condition) → Table (refusedBy (conditions.checkedOf C)) (conditionRows C)
   pub curve : (n : ℕ) → Table (refusedBy (numberedOf n)) (curveRows n)
+  -- 9 before these: for any bytes
+  pub job : (bytes : List ℕ) → Table (refusedBy (beginOf bytes)) (jobRows (jobOf bytes))
   pub trials-start : (s : Trials) → Table (refusalIn (trials.startSays (startOf s))) (trialsStartRows s)
   pub trials-none : (s : Trials) (n : ℕ) → refusalIn (trials.startSays (startOf s)) ≡ some n → trials.startTold (startOf s) ≡ refused n
   pub start : (o : Options) (f0 s0 : Float) → Table (refusalIn (searches.startSays (machine.startOf o f0 s0))) (startRows o f0 s0)
@@ -220,6 +261,9 @@ pub record EveryCall : Type 0 where
   -- 8, 2, 6, 5, 7, and what they leave
   pub trials-answer : (b : Backtracking) (f g : Float) → Tried b f g (answerOf b f g)
   pub answer : (s : Search) (f g : Float) → Answered s f g (machine.answerOf s f g)
+  -- "If an answer from the curve is not finite, refusal 2 applies."
+  pub curve-answer : (s : Search) (c : Curve) (x : Float) → isOver (s .stage) ≡ false → answerFinite (valueOf c x) (slopeOf c x) ≡ false
+      → refusalIn (told (machine.answerOf s (valueOf c x) (slopeOf c x) .outcome)) ≡ some 2
 
 pub every-call : EveryCall
 unfolding inOrder
@@ -229,10 +273,12 @@ every-call = record {
   point-leaves = λ x0 alpha d held r now n said e. said .1 ∙ untouched (pointOf x0 alpha d (length held)) held n (sym (ap refusedBy (said .0)) ∙ e);
   condition = λ C. record { exactly = condition-refused C; ordered = refl };
   curve = λ n. record { exactly = curve-refused n; ordered = refl };
+  job = λ bytes. job-table (jobOf bytes) (only-nine bytes);
   trials-start = λ s. record { exactly = trials-start-refused s; ordered = refl };
   trials-none = λ s. trials-none s (backtracking.suppliedFinite s) (backtracking.inRanges s);
   start = start-refused;
   start-none = start-none;
   trials-answer = λ b f g. trials-answered b f g (b .stage) refl;
   answer = answer-table;
+  curve-answer = λ s c x runs amiss. non-finite-refused s (valueOf c x) (slopeOf c x) runs amiss .0;
 }

@@ -1,4 +1,4 @@
--- 01's table of refusals for the vector routines, the conditions, the curves and backtracking: for each function that can refuse, the rows that concern it, each with its "given
+-- 01's table of refusals for the vector routines, the conditions, the curves, jobs and backtracking: for each function that can refuse, the rows that concern it, each with its "given
 -- exactly when", in 01's order. (Hager-Zhang's stand in hagerzhang/specs/Refusals.antt.) proofs/Refusals.antt shows that the functions refuse by exactly these.
 use Prim.Native.Nat.{ℕ}
 use mathlib.Core.Bool.{Bool, true, false, cond, not, _&&_, _||_}
@@ -12,6 +12,10 @@ use Rattle.floats.specs.Arithmetic.{_⊗_}
 use Rattle.numbers.specs.Numbers.{allFinite, products, leftSum, moved}
 use Rattle.outcomes.specs.Counters.{counted}
 use Rattle.outcomes.specs.Refusals.{Row}
+use Rattle.numbers.specs.Answers.{Answer, value, refused}
+use Rattle.rules.specs.Parameters.{paramsFinite, inRanges, epsilonK, levelOf}
+use Rattle.jobs.specs.declared.Job.{Job}
+use Rattle.jobs.specs.Start.{hasCurve, f0Of}
 use Rattle.conditions.specs.declared.Condition.{Condition}
 use Rattle.conditions.specs.Conditions as conditions
 use Rattle.backtracking.specs.declared.Setup.{Setup as Trials}
@@ -48,6 +52,16 @@ conditionRows C = (2, not (conditions.constantsFinite C)) ∷ (3, not (condition
 -- the curves have the numbers 1 to 8
 abbrev pub curveRows : ℕ → List Row
 curveRows n = (3, eqb n 0 || ltb 8 n) ∷ []
+
+-- a job, by what its bytes are read as: "the job is malformed"; then over the whole job 2, 3 and 4
+abbrev pub jobRows : Answer Job → List Row
+jobRows (refused n) = (9, true) ∷ []
+jobRows (value j) =
+    (9, false)
+    ∷ (2, not (paramsFinite (j .options .params)))
+    ∷ (3, not (hasCurve j && inRanges (j .options)))
+    ∷ (4, not (finite (epsilonK (j .options) (f0Of j)) && finite (levelOf (j .options) (f0Of j))))
+    ∷ []
 
 abbrev pub trialsStartRows : Trials → List Row
 trialsStartRows s = (2, not (backtracking.suppliedFinite s)) ∷ (3, not (backtracking.inRanges s)) ∷ []
