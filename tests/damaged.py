@@ -4,22 +4,21 @@
 usage: damaged.py cases|search PROGRAM [--quick]
 
 Each input must be answered within the time limit, with exit status 0 and output whose every line is of the known kinds. It is also
-compared with what the independent models say must be printed: for cases make_cases_list.py, for search (jobs) the model here
-on that of make_hagerzhang_vectors.py, as far as that goes (it stops after some hundred steps). Prints how many inputs there were, and
+compared with what the independent models say must be printed: for cases make_cases_list.py, for search (jobs) make_search_jobs.py,
+as far as that goes (it stops after some hundred steps). Prints how many inputs there were, and
 ends with status 1 at the first that is not answered so.
 """
 import functools
+import itertools
 import re
-import struct
 import subprocess
 import sys
 import tempfile
 import time
 
-import make_backtracking_vectors as backtracking
 import make_cases_list as cases
-import make_hagerzhang_vectors as hagerzhang
-from exact import NAN, Random, is_finite, is_nan
+import make_search_jobs as search_jobs
+from exact import Random
 
 LIMIT_SECONDS = 10
 MODEL_STEPS = 300
@@ -32,58 +31,16 @@ CASE_LINE = "CASE [1-9][0-9]*|{o}|BRACKET (?:none|{n}(?: {n}){{5}})|BEST (?:none
 
 # ---- what a job must print
 
-def job_fields(job):
-    """The fields by tag, or None where the job is malformed."""
-    sizes, found, at = {1: 1, 2: 16, 3: 8, 4: 8, 5: 2, 6: 2}, {}, 0
-    while at < len(job):
-        head = job[at:at + 3]
-        if len(head) < 3 or head[0] not in sizes or any(head[0] <= tag for tag in found):
-            return None
-        size = struct.unpack(">H", head[1:])[0]
-        body = job[at + 3:at + 3 + size]
-        if size != sizes[head[0]] or len(body) < size:
-            return None
-        found[head[0]] = body
-        at += 3 + size
-    return found if 1 in found else None
-
-
 def job_lines(job):
     """The lines, and whether they are all."""
-    found = job_fields(job)
-    if found is None:
-        return ["REFUSED 9"], True
-    floats = lambda tag, default: [NAN if is_nan(w) else w for w in struct.unpack(">%dQ" % (len(found[tag]) // 8), found[tag])] if tag in found else default
-    pair = lambda tag: struct.unpack(">H", found[tag])[0] if tag in found else 100
-    params = list(hagerzhang.DEFAULTS)
-    params[6:8] = floats(2, params[6:8])
-    params[8:9] = floats(3, params[8:9])
-    params[2:3] = floats(4, params[2:3])
-    k, b, n = found[1][0], pair(5), pair(6)
-    if not all(map(is_finite, params)):
-        return ["REFUSED 2"], True
-    if not 1 <= k <= 8:
-        return ["REFUSED 3"], True
-    f0, s0 = backtracking.curve(k - 1, 0)
-    s = cases.HagerZhang(struct.pack(">11QII", *params, f0, s0, b, n))
-    lines = [s.first]
-    while lines[-1].startswith("ASK"):
-        if len(lines) > MODEL_STEPS:
-            return lines, False
-        lines.append(s.answer(*backtracking.curve(k - 1, int(lines[-1][4:], 16))))
-    return lines, True
+    lines = list(itertools.islice(search_jobs.lines_of(job), MODEL_STEPS))
+    return lines, not lines[-1].startswith("ASK")
 
 
 def jobs():
-    """01's sample and a job for every ending; some have no tag 2."""
-    field = lambda tag, body: struct.pack(">BH", tag, len(body)) + body
-    curve = lambda k: field(1, bytes([k]))
-    bounds = lambda low, high: field(2, struct.pack(">dd", low, high))
-    start = lambda x: field(3, struct.pack(">d", x))
-    epsilon = lambda x: field(4, struct.pack(">d", x))
-    budget, limit = lambda b: field(5, struct.pack(">H", b)), lambda n: field(6, struct.pack(">H", n))
-    return [curve(1) + bounds(0, 4), curve(6) + bounds(10, 100) + start(-1) + epsilon(2), curve(8) + bounds(0, 4) + limit(1), curve(5) + bounds(0, 1e80),
-            curve(2) + epsilon(1e308), curve(3), curve(8) + bounds(0.6, 0.9) + budget(1), curve(8) + bounds(0.6, 0.9), curve(7) + start(0.7) + epsilon(0) + budget(3) + limit(4), curve(9)]
+    """01's sample, a job for every ending and refusal, and some without tag 2."""
+    stored = search_jobs.stored()
+    return [stored[name] for name in ("wolfe_sample", "wolfe_every_field", "approximate", "limit", "2_answer", "4_epsilon_k", "5", "6", "7", "3_curve_9")]
 
 
 # ---- running

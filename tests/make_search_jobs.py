@@ -38,23 +38,28 @@ def fields_of(job):
 
 
 def lines_of(job):
+    """The lines that belong to a job, one after the other."""
     fields = fields_of(job)
     if fields is None:
-        return ["REFUSED 9"]
+        yield "REFUSED 9"
+        return
     floats = lambda tag, default: list(struct.unpack(f">{SIZES[tag] // 8}Q", fields[tag])) if tag in fields else default
     number = lambda tag: int.from_bytes(fields[tag], "big") if tag in fields else 100
     low, high = floats(BOUNDS, DEFAULTS[6:8])
     params = DEFAULTS[:2] + floats(EPSILON, DEFAULTS[2:3]) + DEFAULTS[3:6] + [low, high] + floats(START, DEFAULTS[8:])
     k = fields[CURVE][0]
     if not all(map(is_finite, params)):
-        return ["REFUSED 2"]
+        yield "REFUSED 2"
+        return
     if not 1 <= k <= 8:
-        return ["REFUSED 3"]
+        yield "REFUSED 3"
+        return
     f0, s0 = curve(k - 1, F(0))
     n = refusal(params, f0, s0, number(BUDGET), number(ITERATIONS))
     if n:
-        return [f"REFUSED {n}"]
-    return list(told(Search(params, f0, s0, number(BUDGET), number(ITERATIONS)), k))
+        yield f"REFUSED {n}"
+        return
+    yield from told(Search(params, f0, s0, number(BUDGET), number(ITERATIONS)), k)
 
 
 def told(search, k):
@@ -168,7 +173,7 @@ def stored():
 def main(path, folder=None):
     cases, seen = [], set()
     for name, bytes_ in stored().items():
-        lines = lines_of(bytes_)
+        lines = list(lines_of(bytes_))
         seen.add(" ".join(lines[-1].split()[:2]) if lines[-1][0] in "SR" else "LIMIT")
         text = "".join(line + "\n" for line in lines).encode()
         cases.append(struct.pack(">HH", len(bytes_), len(text)) + bytes_ + text)
