@@ -3,6 +3,8 @@
 
 usage: damaged.py cases|search PROGRAM [--quick]
 
+Quick, it tries four other values of each byte instead of all 255, and fewer edits.
+
 Each input must be answered within the time limit, with exit status 0 and output whose every line is of the known kinds. It is also
 compared with what the independent models say must be printed: for cases make_cases_list.py, for search (jobs) make_search_jobs.py,
 as far as that goes (it stops after some hundred steps). Prints how many inputs there were, and

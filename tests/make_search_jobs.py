@@ -106,6 +106,8 @@ def stored():
         "approximate": job(6, F(10), F(100), F(-1), F(2)),
         "limit": job(8, zero, four, n=1),
         "limit_largest_counts": job(8, zero, four, b=1000, n=10000),
+        # more lines than the program plays at a time
+        "limit_in_two_chunks": job(5, F(10), F(100), F(2), n=300),
         # 2: an answer, and each number of a job
         "2_answer": job(5, zero, F(1e80)),
         "2_low_nan": job(1, NAN, four),

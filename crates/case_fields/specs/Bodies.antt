@@ -43,7 +43,7 @@ hagerZhangOf body = record {
   s0 = floatAt body 80;
 }
 
--- "condition 1 Armijo, 2 Goldstein, 3 Wolfe, 4 strong Wolfe"; c or c1; "c2, not read for 1 and 2". A byte above 4 is malformed, and never comes here.
+-- "condition 1 Armijo, 2 Goldstein, 3 Wolfe, 4 strong Wolfe"; c or c1; "c2, not read for 1 and 2". Another byte than 1 to 4 is malformed, and never comes here.
 unfoldable pub conditionOf : ℕ → Float → Float → Condition
 conditionOf kind c1 c2 =
     cond (eqb kind 1) (Armijo c1) (cond (eqb kind 2) (Goldstein c1) (cond (eqb kind 3) (Wolfe c1 c2) (StrongWolfe c1 c2)))

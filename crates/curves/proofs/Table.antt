@@ -1,10 +1,13 @@
--- The table's rule, proved once over the table: a test that holds of each entry holds at every place; so each coefficient is an i8. Assumes nothing.
+-- The table's rule, proved once over the table: a test that holds of each entry holds at every place; so each coefficient is an i8. And nothing is lost in the cast to
+-- f64: cast back, each coefficient is what it was (`cast-back`). Assumes nothing.
+use mathlib.Core.Path.{_≡_, refl}
 use mathlib.Core.Bool.{Bool, true, false, _&&_}
-use mathlib.Core.List.{List, [], _∷_}
+use mathlib.Core.List.{List, [], _∷_, map}
 use Prim.Native.Nat.{ℕ, zero, suc, _^_}
 use lib.Dec.{T, ltb}
 use lib.IntN.{ℤ, pos}
 use lib.ListN.{getD}
+use lib.Ieee.{binary64, ofInt, toSigned}
 use lib.Ieee.Fits.{and-l, and-r}
 use mir.Syntax.{w8}
 use lib.Signed.{mag}
@@ -24,3 +27,8 @@ every-at test (z ∷ zs) other t o (suc i) = every-at test zs other (and-r (test
 pub coefficient-fits : (i : ℕ) → SFits w8 (getD table i (pos 0))
 unfolding table
 coefficient-fits i = sfits-lit (every-at (λ (z : ℤ). ltb (mag z) (2 ^ hbits w8)) table (pos 0) tt tt i)
+
+-- an i8 has seven bits and its sign
+pub cast-back : map (λ (z : ℤ). toSigned 7 (ofInt binary64 z)) table ≡ table
+unfolding table ofInt toSigned
+cast-back = refl

@@ -53,7 +53,8 @@ conditionRows C = (2, not (conditions.constantsFinite C)) ∷ (3, not (condition
 abbrev pub curveRows : ℕ → List Row
 curveRows n = (3, eqb n 0 || ltb 8 n) ∷ []
 
--- a job, by what its bytes are read as: "the job is malformed"; then over the whole job 2, 3 and 4
+-- a job, by what its bytes are read as: "the job is malformed", which is every job that 01's format does not hold (jobs/proofs/BothWays.antt); then over the whole
+-- job 2, 3 and 4
 abbrev pub jobRows : Answer Job → List Row
 jobRows (refused n) = (9, true) ∷ []
 jobRows (value j) =

@@ -39,6 +39,7 @@ use Rattle.hagerzhang.specs.declared.Stage.{Stage}
 use Rattle.hagerzhang.specs.declared.Stage.the-variants.{Open, Over}
 use Rattle.hagerzhang.specs.declared.Move.{Move}
 use Rattle.hagerzhang.specs.declared.Move.the-variants.{Try, Narrow, Stop as ByVerdict, Limit as ByLimit}
+use Rattle.hagerzhang.specs.declared.Tested.{Tested}
 use Rattle.hagerzhang.specs.declared.Then.{Then}
 use Rattle.hagerzhang.specs.declared.Then.the-variants.{Go, Close}
 use Rattle.hagerzhang.specs.declared.Next.{Next}
@@ -48,7 +49,7 @@ use Rattle.hagerzhang.specs.declared.Started.{Started}
 use Rattle.hagerzhang.specs.declared.Started.the-variants.{Began, NoSearch}
 use Rattle.rules.specs.Parameters.{suppliedFinite, inRanges, epsilonK, levelOf, setupOf}
 use Rattle.rules.specs.Rules.{point, answerFinite, middleOf, secantOf, S4, L2, bestOf, judgedOf, trial, between, U3, update, further, afterS4, afterS1, iteration, Report, reportOf, decided, verdict, rounds, askStart, askHigh, search}
-use Rattle.hagerzhang.specs.Machine.{trialAt, comesOf, leftOf, attemptOf, probeOf, triedBy, afterS4Of, afterS1Of, followBy, onwardOf, openedOf, closedOf, outlookBy, outlookOf, madeOf, settledOf, wentOf, reactOf, keptOf, takenOf, answerBy, answerOf, fresh, startOf}
+use Rattle.hagerzhang.specs.Machine.{trialAt, comesOf, leftOf, attemptOf, probeOf, testedOf, madeBy, triedBy, afterS4Of, afterS1Of, followBy, onwardOf, openedOf, closedOf, outlookBy, outlookOf, madeOf, settledOf, wentOf, reactOf, keptOf, takenOf, answerBy, answerOf, fresh, startOf}
 use Rattle.hagerzhang.specs.Meaning.{lastOf, keptReport, ended, afterTrial, onAsked, onAnswer, askedStep, stepOf, meaning, meant, startTold, startSays, begun, Starts, Follows}
 
 denote : Setup → Next → Seen Report
@@ -69,10 +70,13 @@ module _ (s : Setup) (fin : Finished) where
   abbrev went : Then → Seen Report
   went t = denote s (wentOf s fin t)
 
+  abbrev put : Tested → Seen Report
+  put t = denote s (madeBy fin t)
+
   -- a trial (5)
   tries : (rule : Rule) (w : Bracket) (x : Float) → moved (Try w (trialAt rule x)) ≡ seen (trial s (leaving k) k x (λ c. update s (leaving k) k w c (afterTrial s fin rule x)))
-  unfolding attemptOf madeOf trial onAnswer comesOf leftOf keptOf stepOf askedStep keptReport denote seen rest shown meaning
-  tries rule w x = picks (denote s) (finite x) _ _ _ _ refl refl
+  unfolding attemptOf testedOf madeBy trial onAnswer comesOf leftOf keptOf stepOf askedStep keptReport denote seen rest shown meaning
+  tries rule w x = picks put (finite x) _ _ _ _ refl refl
 
 -- ---- the start or an iteration is finished: the verdict, the limit, and S1 of the next iteration
 module _ (s : Setup) (h : s .options .limit < 4294967296) (w : Bracket) (c : Point) (i : ℕ) where
@@ -93,7 +97,7 @@ module _ (s : Setup) (h : s .options .limit < 4294967296) (w : Bracket) (c : Poi
   round-is (suc n) = refl
 
   limits : (n : ℕ) → n ≡ 0 → moved s done ByLimit ≡ seen (onwards n)
-  unfolding onwards madeOf denote seen rest shown keptReport meaning
+  unfolding onwards testedOf madeBy denote seen rest shown keptReport meaning
   limits n e = rw e
 
   begins : (n : ℕ) → counted i ≡ i + 1 → n ≡ suc (N - counted i) → moved s done (Try w (trialAt ByS1 (secantOf (w .a) (w .b)))) ≡ seen (onwards n)
@@ -113,7 +117,7 @@ module _ (s : Setup) (h : s .options .limit < 4294967296) (w : Bracket) (c : Poi
 
   judges : (go : Run Report) → moved s done (outlookBy s done Fails) ≡ seen go → (j : Judged)
       → moved s done (outlookBy s done j) ≡ seen (decided (reportOf s w c i) (done .best .x) go j)
-  unfolding outlookBy decided madeOf denote seen rest shown keptReport meaning
+  unfolding outlookBy decided testedOf madeBy denote seen rest shown keptReport meaning
   judges go e (Holds v) = refl
   judges go e Fails = e
 
@@ -159,7 +163,7 @@ module _ (s : Setup) (h : s .options .limit < 4294967296) (fin : Finished) where
 
     -- U3 while n answers may come
     narrows : (n : ℕ) (came : Came) → went s fin (onwardOf gamma (fin .bracket) t n came) ≡ seen (U3 s (leaving (lastOf fin)) (lastOf fin) n came goes-on)
-    unfolding onwardOf wentOf probeOf madeOf U3 between meaning onAnswer comesOf leftOf keptOf stepOf askedStep keptReport denote seen rest shown
+    unfolding onwardOf wentOf probeOf testedOf madeBy U3 between meaning onAnswer comesOf leftOf keptOf stepOf askedStep keptReport denote seen rest shown
     narrows zero (To u) = follows-on (t .rule) (t .x) u
     narrows zero (On a k') = refl
     narrows (suc n) (To u) = follows-on (t .rule) (t .x) u
@@ -167,7 +171,7 @@ module _ (s : Setup) (h : s .options .limit < 4294967296) (fin : Finished) where
         let x = middleOf (s .options .params .theta) a k' in
         let e : suc n - 1 ≡ n = omega arith in
         let z : eqb (suc n) 0 ≡ false = ne-eqb (suc n) 0 (λ (p : suc n ≡ 0). suc-ne-zero n p) in
-        rw (e, z) (picks (denote s) (finite x) _ _ _ _ (picks (denote s) (a .x <ᶠ x && x <ᶠ k') _ _ _ _ refl refl) refl)
+        rw (e, z) (picks (put s fin) (finite x) _ _ _ _ (picks (put s fin) (a .x <ᶠ x && x <ᶠ k') _ _ _ _ refl refl) refl)
 
 module _ (s : Setup) (h : s .options .limit < 4294967296) where
   starts-rounds : (w : Bracket) (c : Point) → denote s (settledOf s (openedOf w c)) ≡ seen (rounds s (s .options .limit) w c 0)

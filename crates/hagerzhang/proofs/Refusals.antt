@@ -20,13 +20,13 @@ use Rattle.rules.specs.declared.Options.{Options}
 use Rattle.rules.specs.declared.Setup.{Setup}
 use Rattle.hagerzhang.specs.declared.Finished.{Finished}
 use Rattle.hagerzhang.specs.declared.Trial.{Trial}
-use Rattle.hagerzhang.specs.declared.Asked.the-variants.{Update, Between}
 use Rattle.hagerzhang.specs.declared.Waiting.{Waiting}
 use Rattle.hagerzhang.specs.declared.Waiting.the-variants.{Low, High, Start, Running}
 use Rattle.hagerzhang.specs.declared.Stage.{Stage}
 use Rattle.hagerzhang.specs.declared.Stage.the-variants.{Open, Over}
 use Rattle.hagerzhang.specs.declared.Move.{Move}
 use Rattle.hagerzhang.specs.declared.Move.the-variants.{Try, Narrow, Stop as ByVerdict, Limit as ByLimit}
+use Rattle.hagerzhang.specs.declared.Tested.the-variants.{Try as Asks, Narrow as Narrows, End as Stops}
 use Rattle.hagerzhang.specs.declared.Then.{Then}
 use Rattle.hagerzhang.specs.declared.Then.the-variants.{Go, Close}
 use Rattle.hagerzhang.specs.declared.Next.{Next}
@@ -35,7 +35,7 @@ use Rattle.hagerzhang.specs.declared.Step.{Step}
 use Rattle.hagerzhang.specs.declared.Started.the-variants.{Began, NoSearch}
 use Rattle.rules.specs.Parameters.{suppliedFinite, inRanges, epsilonK, levelOf, setupOf}
 use Rattle.rules.specs.Rules.{point, answerFinite, middleOf, Report}
-use Rattle.hagerzhang.specs.Machine.{ends, next, comesOf, leftOf, onwardOf, openedOf, closedOf, outlookOf, endedOf, attemptOf, probeOf, madeOf, wentOf, reactOf, keptOf, stepTo, takenOf, answerBy, answerOf, fresh, startOf}
+use Rattle.hagerzhang.specs.Machine.{ends, next, comesOf, leftOf, onwardOf, openedOf, closedOf, outlookOf, attemptOf, probeOf, testedOf, madeBy, madeOf, wentOf, reactOf, keptOf, stepTo, takenOf, answerBy, answerOf, fresh, startOf}
 use Rattle.hagerzhang.specs.Meaning.{keptReport, stageReport, report, startTold, startSays}
 use Rattle.hagerzhang.specs.Refusals.{startRows, isOver, Due, move, dueThen, due, budgetSpent, stepNotFinite, stepNotBetween, answerRows, keptAt, keptBy}
 
@@ -76,9 +76,8 @@ none-refused : {A : Type 0} (m : ℕ) → _≡_ {A = Option ℕ} none (some m) �
 none-refused m e = absurd (Option·none-ne-some m e)
 
 module _ (before : Report) (theta : Float) (last : Finished) where
-  tries : (u : Bracket) (t : Trial) (b : Bool) → finite (t .x) ≡ b
-      → Made before theta (move last (Try u t)) (cond b (next (Open (Running last t (Update u))) (Ask (t .x))) (endedOf last (Refused StepNotFinite)))
-  unfolding stageReport keptReport
+  tries : (u : Bracket) (t : Trial) (b : Bool) → finite (t .x) ≡ b → Made before theta (move last (Try u t)) (madeBy last (cond b (Asks u t) (Stops (Refused StepNotFinite))))
+  unfolding stageReport keptReport madeBy
   tries u t true e = record { number = rw e; over = λ m q. none-refused m q; keeps = λ m q. none-refused m q }
   tries u t false e = record { number = rw e; over = λ m q. refl; keeps = λ m q. refl }
 
@@ -88,16 +87,17 @@ module _ (before : Report) (theta : Float) (last : Finished) where
 
     narrows : (z f i : Bool) → eqb left 0 ≡ z → finite d ≡ f → (h .x <ᶠ d && d <ᶠ k) ≡ i
         → Made before theta (move last (Narrow t h k left))
-        (cond z (endedOf last (Refused BudgetSpent))
-        (cond f (cond i (next (Open (Running last t (Between (ends h k d (left - 1))))) (Ask d)) (endedOf last (Refused StepNotBetween))) (endedOf last (Refused StepNotFinite))))
-    unfolding stageReport keptReport
+        (madeBy last
+        (cond z (Stops (Refused BudgetSpent))
+        (cond f (cond i (Narrows t (ends h k d (left - 1))) (Stops (Refused StepNotBetween))) (Stops (Refused StepNotFinite)))))
+    unfolding stageReport keptReport madeBy
     narrows true f i ez ef ei = record { number = rw ez; over = λ m q. refl; keeps = λ m q. refl }
     narrows false false i ez ef ei = record { number = rw (ez, ef); over = λ m q. refl; keeps = λ m q. refl }
     narrows false true false ez ef ei = record { number = rw (ez, ef, ei); over = λ m q. refl; keeps = λ m q. refl }
     narrows false true true ez ef ei = record { number = rw (ez, ef, ei); over = λ m q. none-refused m q; keeps = λ m q. none-refused m q }
 
   makes : (m : Move) → Made before theta (move last m) (madeOf theta last m)
-  unfolding madeOf attemptOf probeOf
+  unfolding testedOf attemptOf probeOf madeBy
   makes (Try u t) = tries u t (finite (t .x)) refl
   makes (Narrow t h k left) = narrows t h k left (eqb left 0) (finite (middleOf theta h k)) (h .x <ᶠ middleOf theta h k && middleOf theta h k <ᶠ k) refl refl refl
   makes (ByVerdict v) = record { number = refl; over = λ m q. none-refused m q; keeps = λ m q. none-refused m q }

@@ -38,6 +38,8 @@ use Rattle.hagerzhang.specs.declared.Stage.{Stage}
 use Rattle.hagerzhang.specs.declared.Stage.the-variants.{Open, Over}
 use Rattle.hagerzhang.specs.declared.Move.{Move}
 use Rattle.hagerzhang.specs.declared.Move.the-variants.{Try, Narrow, Stop as ByVerdict, Limit as ByLimit}
+use Rattle.hagerzhang.specs.declared.Tested.{Tested}
+use Rattle.hagerzhang.specs.declared.Tested.the-variants.{Try as Asks, Narrow as Narrows, End as Stops}
 use Rattle.hagerzhang.specs.declared.Then.{Then}
 use Rattle.hagerzhang.specs.declared.Then.the-variants.{Go, Close}
 use Rattle.hagerzhang.specs.declared.Next.{Next}
@@ -107,27 +109,29 @@ outlookBy s last Fails =
 abbrev pub outlookOf : Setup → Finished → Move
 outlookOf s last = outlookBy s last (judgedOf s (last .best))
 
-abbrev pub endedOf : Finished → Outcome → Next
-endedOf last o = next (Over (Last last)) o
+unfoldable pub attemptOf : Bracket → Trial → Tested
+attemptOf u t = cond (finite (t .x)) (Asks u t) (Stops (Refused StepNotFinite))
 
-unfoldable pub attemptOf : Finished → Bracket → Trial → Next
-attemptOf last u t =
-    cond (finite (t .x)) (next (Open (Running last t (Update u))) (Ask (t .x))) (endedOf last (Refused StepNotFinite))
-
-unfoldable pub probeOf : Float → Finished → Trial → Point → Float → ℕ → Next
-probeOf theta last t h k left =
+unfoldable pub probeOf : Float → Trial → Point → Float → ℕ → Tested
+probeOf theta t h k left =
     let d = middleOf theta h k in
-    cond (eqb left 0) (endedOf last (Refused BudgetSpent))
-    (cond (finite d)
-    (cond (h .x <ᶠ d && d <ᶠ k) (next (Open (Running last t (Between (ends h k d (left - 1))))) (Ask d))
-    (endedOf last (Refused StepNotBetween)))
-    (endedOf last (Refused StepNotFinite)))
+    cond (eqb left 0) (Stops (Refused BudgetSpent))
+    (cond (finite d) (cond (h .x <ᶠ d && d <ᶠ k) (Narrows t (ends h k d (left - 1))) (Stops (Refused StepNotBetween)))
+    (Stops (Refused StepNotFinite)))
 
-unfoldable pub madeOf : Float → Finished → Move → Next
-madeOf theta last (Try u t) = attemptOf last u t
-madeOf theta last (Narrow t h k left) = probeOf theta last t h k left
-madeOf theta last (ByVerdict v) = endedOf last (Stop v (last .best .x))
-madeOf theta last ByLimit = endedOf last (Limit (last .best .x))
+unfoldable pub testedOf : Float → Float → Move → Tested
+testedOf theta best (Try u t) = attemptOf u t
+testedOf theta best (Narrow t h k left) = probeOf theta t h k left
+testedOf theta best (ByVerdict v) = Stops (Stop v best)
+testedOf theta best ByLimit = Stops (Limit best)
+
+unfoldable pub madeBy : Finished → Tested → Next
+madeBy last (Asks u t) = next (Open (Running last t (Update u))) (Ask (t .x))
+madeBy last (Narrows t e) = next (Open (Running last t (Between e))) (Ask (e .d))
+madeBy last (Stops o) = next (Over (Last last)) o
+
+abbrev pub madeOf : Float → Finished → Move → Next
+madeOf theta last m = madeBy last (testedOf theta (last .best .x) m)
 
 abbrev pub settledOf : Setup → Finished → Next
 settledOf s last = madeOf (s .options .params .theta) last (outlookOf s last)

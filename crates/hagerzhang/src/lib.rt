@@ -15,7 +15,7 @@ use rules::Point;
 use rules::Setup;
 ghost use mathlib.Core.Path.{_≡_};
 ghost use Prim.Native.Nat.{_<_};
-ghost use Rattle.hagerzhang.specs.Machine.{fresh, startOf, comesOf, leftOf, afterS4Of, afterS1Of, followOf, onwardOf, openedOf, closedOf, outlookOf, endedOf, attemptOf, probeOf, madeOf, settledOf, reactOf, keptOf, takenOf, answerOf};
+ghost use Rattle.hagerzhang.specs.Machine.{fresh, startOf, comesOf, leftOf, afterS4Of, afterS1Of, followOf, onwardOf, openedOf, closedOf, outlookOf, attemptOf, probeOf, testedOf, madeOf, settledOf, reactOf, keptOf, takenOf, answerOf};
 ghost use Rattle.hagerzhang.specs.Meaning.{Starts, Follows};
 
 // ---- the state
@@ -217,64 +217,77 @@ fn outlook(s: Setup, last: Finished) -> Move
     }
 }
 
-// The end. It keeps what the last finished iteration left.
-fn ended(last: Finished, outcome: Outcome) -> Next
-    ensures { λ r. ⌜ r ≡ endedOf last outcome ⌝ }
-{
-    Next {
-        stage: Stage::Over(Kept::Last(last)),
-        outcome,
-    }
+// A move that was tested: it is asked, or the search is over.
+enum Tested {
+    Try(Bracket, Trial),
+    Narrow(Trial, Ends),
+    End(Outcome),
 }
 
 // A trial is asked where its step is finite (5).
-fn attempt(last: Finished, u: Bracket, t: Trial) -> Next
-    ensures { λ r. ⌜ r ≡ attemptOf last u t ⌝ }
+fn attempt(u: Bracket, t: Trial) -> Tested
+    ensures { λ r. ⌜ r ≡ attemptOf u t ⌝ }
 {
     if numbers::is_finite(t.x) {
-        return Next {
-            stage: Stage::Open(Waiting::Running(last, t, Asked::Update(u))),
-            outcome: Outcome::Ask(t.x),
-        };
+        return Tested::Try(u, t);
     }
-    ended(last, Outcome::Refused(Refusal::StepNotFinite))
+    Tested::End(Outcome::Refused(Refusal::StepNotFinite))
 }
 
 // U3's next step is asked where an answer may still come (6) and it is finite (5) and strictly between the ends (7).
-fn probe(theta: f64, last: Finished, t: Trial, h: Point, k: f64, left: u32) -> Next
-    ensures { λ r. ⌜ r ≡ probeOf theta last t h k left ⌝ }
+fn probe(theta: f64, t: Trial, h: Point, k: f64, left: u32) -> Tested
+    ensures { λ r. ⌜ r ≡ probeOf theta t h k left ⌝ }
 {
     if left == 0 {
-        return ended(last, Outcome::Refused(Refusal::BudgetSpent));
+        return Tested::End(Outcome::Refused(Refusal::BudgetSpent));
     }
     let d = rules::middle(theta, h, k);
     if !numbers::is_finite(d) {
-        return ended(last, Outcome::Refused(Refusal::StepNotFinite));
+        return Tested::End(Outcome::Refused(Refusal::StepNotFinite));
     }
     if (h.x < d) & (d < k) {
-        let e = Ends {
-            h,
-            k,
-            d,
-            left: left - 1,
-        };
-        return Next {
-            stage: Stage::Open(Waiting::Running(last, t, Asked::Between(e))),
-            outcome: Outcome::Ask(d),
-        };
+        return Tested::Narrow(
+            t,
+            Ends {
+                h,
+                k,
+                d,
+                left: left - 1,
+            },
+        );
     }
-    ended(last, Outcome::Refused(Refusal::StepNotBetween))
+    Tested::End(Outcome::Refused(Refusal::StepNotBetween))
 }
 
-// (4) What is due is tested (5, 6, 7), and asked.
+// (4) What is due is tested: 5; 6, 5, 7.
+fn test(theta: f64, best: f64, m: Move) -> Tested
+    ensures { λ r. ⌜ r ≡ testedOf theta best m ⌝ }
+{
+    match m {
+        Move::Try(u, t) => attempt(u, t),
+        Move::Narrow(t, h, k, left) => probe(theta, t, h, k, left),
+        Move::Stop(v) => Tested::End(Outcome::Stop(v, best)),
+        Move::Limit => Tested::End(Outcome::Limit(best)),
+    }
+}
+
+// (5) The next state, and what is said. An end keeps what the last finished iteration left.
 fn made(theta: f64, last: Finished, m: Move) -> Next
     ensures { λ r. ⌜ r ≡ madeOf theta last m ⌝ }
 {
-    match m {
-        Move::Try(u, t) => attempt(last, u, t),
-        Move::Narrow(t, h, k, left) => probe(theta, last, t, h, k, left),
-        Move::Stop(v) => ended(last, Outcome::Stop(v, last.best.x)),
-        Move::Limit => ended(last, Outcome::Limit(last.best.x)),
+    match test(theta, last.best.x, m) {
+        Tested::Try(u, t) => Next {
+            stage: Stage::Open(Waiting::Running(last, t, Asked::Update(u))),
+            outcome: Outcome::Ask(t.x),
+        },
+        Tested::Narrow(t, e) => Next {
+            stage: Stage::Open(Waiting::Running(last, t, Asked::Between(e))),
+            outcome: Outcome::Ask(e.d),
+        },
+        Tested::End(outcome) => Next {
+            stage: Stage::Over(Kept::Last(last)),
+            outcome,
+        },
     }
 }
 

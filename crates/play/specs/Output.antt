@@ -1,4 +1,5 @@
--- 01, "Sample curves and jobs": the whole text that belongs to a job, for any bytes. It rests on 01's format, 01's order of refusals, 01's rules and 01's lines alone.
+-- 01, "Sample curves and jobs": the whole text that belongs to a job, for any bytes. It rests on 01's format (`jobOf`, which jobs/proofs/BothWays.antt shows to be the
+-- format), 01's order of refusals, 01's rules and 01's lines alone.
 use Prim.Native.Nat.{ℕ}
 use mathlib.Core.List.{List}
 use Rattle.numbers.specs.Answers.{Answer, value, refused}

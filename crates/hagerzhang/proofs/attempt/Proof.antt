@@ -11,7 +11,7 @@ returns c = search (tests, c .before .is-finite .ensures)
 
 returns-2 : tie.Need-returns-2
 unfolding attemptOf
-returns-2 c = search (tests, c .ended .ensures, c .before .before .is-finite .ensures)
+returns-2 c = search (tests, c .before .is-finite .ensures)
 
 pub attempt-spec : {M : Type 1} → statement M
-attempt-spec = tie.close (tie.spec (λ c κs. search needs) returns (λ c κs. search needs) returns-2)
+attempt-spec = tie.close (tie.spec (λ c κs. search needs) returns returns-2)

@@ -1,39 +1,30 @@
 -- `hagerzhang::made` meets its contract. Assumes nothing.
-use Rattle.outcomes.proofs.Branches.{tests}
-use Rattle.hagerzhang.specs.Machine.{madeOf}
+use mathlib.Core.Path.{_≡_, sym, _∙_}
 use borrow.Author.Needs.{needs}
+use Rattle.hagerzhang.specs.Machine.{madeBy}
 use Rattle.hagerzhang.proofs.made.Statement.{statement}
 use Rattle.hagerzhang.proofs.made.Tie as tie
 
 returns : tie.Need-returns
-unfolding madeOf
-returns c = search (tests, c .attempt .ensures, c .before .before .m .given .1)
+unfolding madeBy
+returns c = rw (sym (c .before .before .before .test .ensures) ∙ c .before .u .given .1)
 
 returns-2 : tie.Need-returns-2
-unfolding madeOf
-returns-2 c = search (tests, c .probe .ensures, c .before .before .m2 .given .1)
+unfolding madeBy
+returns-2 c = rw (sym (c .before .before .before .test .ensures) ∙ c .before .t .given .1)
 
 returns-3 : tie.Need-returns-3
-unfolding madeOf
-returns-3 c = search (tests, c .ended .ensures, c .before .before .m3 .given .1)
-
-returns-4 : tie.Need-returns-4
-unfolding madeOf
-returns-4 c = search (tests, c .ended2 .ensures, c .before .enum-told .given .1)
+unfolding madeBy
+returns-3 c = rw (sym (c .before .before .before .test .ensures) ∙ c .before .outcome .given .1)
 
 pub made-spec : {M : Type 1} → statement M
 made-spec =
     tie.close
     (tie.spec
-    (λ c. search needs)
     (λ c κs. search needs)
     (λ c. search needs)
-    (λ c κs. search needs)
     (λ c. search needs)
-    (λ c κs. search needs)
     (λ c. search needs)
-    (λ c κs. search needs)
     returns
     returns-2
-    returns-3
-    returns-4)
+    returns-3)
