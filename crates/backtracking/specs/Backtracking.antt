@@ -39,7 +39,7 @@ inRanges s = parametersInRange s && limitInRange (s .limit)
 -- ---- "Backtracking asks alpha, tests, then alpha*rho, and so on; each later trial is one iteration."
 
 module _ (s : Setup) where
-  -- A trial at t. Before its answer is accepted `before` iterations are counted, and a refusal keeps that count; with it there are `now`.
+  -- A trial at t. Before its answer is accepted `before` iterations are counted, and a refusal keeps that count; with it there are `now`, one more, but at the first trial.
   -- The stop has "the verdict "met" and the step".
   abbrev tested : ℕ → ℕ → Float → Search ℕ → Search ℕ
   tested before now t further =

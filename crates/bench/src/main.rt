@@ -20,7 +20,7 @@ struct Tally {
 }
 
 fn chosen() -> Options {
-    let d = rules::defaults();
+    let d = decisions::defaults();
     let p = d.params;
     Options {
         params: Params {

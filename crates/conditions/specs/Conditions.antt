@@ -25,6 +25,7 @@ inRange (Goldstein c) = 0ᶠ <ᶠ c && c <ᶠ ½ᶠ
 inRange (Wolfe c1 c2) = 0ᶠ <ᶠ c1 && c1 <ᶠ c2 && c2 <ᶠ 1ᶠ
 inRange (StrongWolfe c1 c2) = 0ᶠ <ᶠ c1 && c1 <ᶠ c2 && c2 <ᶠ 1ᶠ
 
+-- A condition by itself. (A search's start looks at all its numbers first, and then at all ranges.)
 abbrev pub checkedOf : Condition → Answer Condition
 checkedOf C =
     unless (constantsFinite C) refuse 2 else

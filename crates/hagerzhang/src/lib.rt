@@ -101,8 +101,8 @@ fn comes(level: f64, t: Trial, asked: Asked, f: f64, g: f64) -> Came
     ensures { λ r. ⌜ r ≡ comesOf level t asked f g ⌝ }
 {
     match asked {
-        Asked::Update(w) => rules::updated(level, w, Point { x: t.x, f, g }),
-        Asked::Between(e) => rules::narrowed(level, e.h, e.k, Point { x: e.d, f, g }),
+        Asked::Update(w) => decisions::updated(level, w, Point { x: t.x, f, g }),
+        Asked::Between(e) => decisions::narrowed(level, e.h, e.k, Point { x: e.d, f, g }),
     }
 }
 
@@ -134,7 +134,7 @@ enum Then {
 fn after_s4(gamma: f64, w: Bracket, v: Bracket) -> Then
     ensures { λ r. ⌜ r ≡ afterS4Of gamma w v ⌝ }
 {
-    match rules::l2(gamma, w, v) {
+    match decisions::l2(gamma, w, v) {
         Further::At(x) => Then::Go(Move::Try(v, Trial { rule: Rule::L2, x })),
         Further::Nothing => Then::Close(v),
     }
@@ -144,7 +144,7 @@ fn after_s4(gamma: f64, w: Bracket, v: Bracket) -> Then
 fn after_s1(gamma: f64, w: Bracket, c: f64, u: Bracket) -> Then
     ensures { λ r. ⌜ r ≡ afterS1Of gamma w c u ⌝ }
 {
-    match rules::s4(w, c, u) {
+    match decisions::s4(w, c, u) {
         Further::At(x) => Then::Go(Move::Try(u, Trial { rule: Rule::S4, x })),
         Further::Nothing => after_s4(gamma, w, u),
     }
@@ -176,7 +176,7 @@ fn onward(gamma: f64, w: Bracket, t: Trial, left: u32, came: Came) -> Then
 fn opened(w: Bracket, c: Point) -> Finished
     ensures { λ r. ⌜ r ≡ openedOf w c ⌝ }
 {
-    let p = rules::best(w.a, w.b, c);
+    let p = decisions::best(w.a, w.b, c);
     Finished {
         bracket: w,
         start: c,
@@ -190,7 +190,7 @@ fn closed(last: Finished, v: Bracket) -> Finished
     ensures { λ r. ⌜ r ≡ closedOf last v ⌝ }
 {
     let start = last.start;
-    let p = rules::best(v.a, v.b, start);
+    let p = decisions::best(v.a, v.b, start);
     let n = last.iterations.next();
     Finished {
         bracket: v,
@@ -205,13 +205,13 @@ fn outlook(s: Setup, last: Finished) -> Move
     ensures { λ r. ⌜ r ≡ outlookOf s last ⌝ }
 {
     let w = last.bracket;
-    match rules::judge(s, last.best) {
+    match decisions::judge(s, last.best) {
         Judged::Holds(v) => Move::Stop(v),
         Judged::Fails => {
             if s.options.limit <= last.iterations.0 {
                 return Move::Limit;
             }
-            let x = rules::secant(w.a, w.b);
+            let x = decisions::secant(w.a, w.b);
             Move::Try(w, Trial { rule: Rule::S1, x })
         }
     }
@@ -241,7 +241,7 @@ fn probe(theta: f64, t: Trial, h: Point, k: f64, left: u32) -> Tested
     if left == 0 {
         return Tested::End(Outcome::Refused(Refusal::BudgetSpent));
     }
-    let d = rules::middle(theta, h, k);
+    let d = decisions::middle(theta, h, k);
     if !numbers::is_finite(d) {
         return Tested::End(Outcome::Refused(Refusal::StepNotFinite));
     }
@@ -342,7 +342,7 @@ fn keeps(waiting: Waiting) -> Kept
 fn taken(s: Setup, n: Evaluations, waiting: Waiting, f: f64, g: f64) -> Step
     ensures { λ r. ⌜ r ≡ takenOf s n waiting f g ⌝ }
 {
-    if rules::both_finite(f, g) {
+    if decisions::both_finite(f, g) {
         let next = react(s, waiting, f, g);
         let stage = next.stage;
         let outcome = next.outcome;
@@ -400,15 +400,15 @@ fn fresh_search(s: Setup) -> Step
 fn begin(o: Options, f0: f64, s0: f64) -> Started
     ensures { λ r. ⌜ r ≡ startOf o f0 s0 ⌝ }
 {
-    if !rules::supplied_finite(o, f0, s0) {
+    if !decisions::supplied_finite(o, f0, s0) {
         return Started::NoSearch(Refusal::SuppliedNotFinite);
     }
-    if !rules::in_ranges(o) {
+    if !decisions::in_ranges(o) {
         return Started::NoSearch(Refusal::OutOfRange);
     }
     let epsilon_k = o.params.epsilon * numbers::abs(f0);
     let level = f0 + epsilon_k;
-    if !rules::both_finite(epsilon_k, level) {
+    if !decisions::both_finite(epsilon_k, level) {
         return Started::NoSearch(Refusal::ResultNotFinite);
     }
     Started::Began(fresh_search(Setup {

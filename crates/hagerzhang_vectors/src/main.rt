@@ -168,7 +168,7 @@ fn secant_case(s: &[u8], at: usize) -> Judged {
         g: number(s, after(at, 24)),
     };
     Judged {
-        right: bits::bits_of(rules::secant(p, q)) == word(s, after(at, 32)),
+        right: bits::bits_of(decisions::secant(p, q)) == word(s, after(at, 32)),
         next: after(at, 40),
     }
 }

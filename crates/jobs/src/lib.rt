@@ -106,7 +106,7 @@ fn options(
     requires { ⌜ (bounds ≤ length (now job)) × (start ≤ length (now job)) × (epsilon ≤ length (now job)) × (budget ≤ length (now job)) × (limit ≤ length (now job)) ⌝ }
     ensures { λ r. ⌜ r ≡ optionsAt (now (job .entry)) bounds start epsilon budget limit ⌝ }
 {
-    let d = rules::defaults();
+    let d = decisions::defaults();
     let p = d.params;
     let min = number(job, Place(bounds, 2, 16), 0, p.min);
     let max = number(job, Place(bounds, 2, 16), 8, p.max);
@@ -166,7 +166,7 @@ fn start(j: Job) -> Opened
     ensures { λ r. ⌜ openedTold r ≡ beginsBy (value j) ⌝ }
 {
     let o = j.options;
-    if !rules::supplied_finite(o, 0.0, 0.0) {
+    if !decisions::supplied_finite(o, 0.0, 0.0) {
         return Opened::NoSearch(Refusal::SuppliedNotFinite);
     }
     match curves::numbered(j.curve) {

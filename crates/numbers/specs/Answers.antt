@@ -1,4 +1,4 @@
--- 01's answer to a request: a value, or a refusal by its number.
+-- What a routine answers: a value, or a refusal by its number. (What the caller answers to a search is a cost and a slope, a `Reply`.)
 use Prim.Native.Nat.{ℕ}
 use mathlib.Core.Bool.{Bool, cond}
 

@@ -32,7 +32,7 @@ abbrev pub Reply : Type 0
 Reply = Float × Float
 
 module _ {K : Type 0} where
-  -- 01, refusal 8: a search that is over refuses whatever is said to it, and reports what it did
+  -- 01, refusal 8: a search that is over refuses whatever is said to it, and reports what it did ("state unchanged")
   unfoldable pub respond : Search K → Float → Float → Search K
   respond (ask k x then) f g = then f g
   respond (end o) f g = over (o .keeps) (refusal 8)
@@ -50,7 +50,7 @@ module _ {K : Type 0} where
   isOver (ask k x then) = false
   isOver (end o) = true
 
-  -- what is left of a search once it has told its outcome: where it ended, it refuses whatever is said to it (8)
+  -- what is left of a search once it has told its outcome: where it ended, it refuses whatever is said to it (8). A state of the machine stands for this
   unfoldable pub rest : Search K → Search K
   rest (ask k x then) = ask k x then
   rest (end o) = over (o .keeps) (refusal 8)

@@ -1,5 +1,7 @@
 -- 01, "Hager-Zhang rules", line by line: each rule once, as a decision; then the flow over them as a run of questions and answers.
--- A point is (x, f, g): step, cost and slope. A bracket is (a, b). L is the setup's level.
+-- A point is (x, f, g): step, cost and slope. A bracket is (a, b). L is the setup's level. The types are declared in src/lib.rt, with their cases: what an answer comes to
+-- is `To` a bracket, or `On` in U3 with its ends h and k; a further trial is `At` a step, or there is `Nothing`; a verdict `Holds`, or it `Fails`.
+-- Evaluations are counted over the whole run: `accepted` of outcomes/specs/Asking.antt, with `answerFinite`.
 use Prim.Native.Nat.{ℕ, zero, suc, _+_}
 use mathlib.Core.Bool.{Bool, cond, _&&_, _||_}
 use lib.Ieee.{Float, binary64, ofBits}
@@ -80,7 +82,7 @@ S2 w c u = when (near c (u .b .x)) (secantOf (w .b) (u .b))
 unfoldable pub S3 : Bracket → Float → Bracket → Further
 S3 w c u = when (near c (u .a .x)) (secantOf (w .a) (u .a))
 
--- "S4: if either held, ask e and update (A, Z) with it."
+-- "S4: if either held, ask e and update (A, Z) with it." "In S2 and S3 only the final e is tested for refusal 5."
 abbrev pub S4 : Bracket → Float → Bracket → Further
 S4 w c u = orElse (S3 w c u) (S2 w c u)
 
@@ -129,7 +131,8 @@ module _ {K R : Type 0} (s : Setup) (refuse : ℕ → R) (k : K) where
   unfoldable pub between : Point → Float → Float → (Point → Run K R) → Run K R
   between h k' x then = cond (finite x) (cond (h .x <ᶠ x && x <ᶠ k') (asking x then) (end (refuse 7))) (end (refuse 5))
 
-  -- U3 while n answers may come. 6: "one U3 run has had B answers and the last did not end it", before 5 and 7
+  -- U3 while n answers may come; where U0 to U2, or the last answer, came `To` a bracket, there is nothing to ask. 6: "one U3 run has had B answers and the last did
+  -- not end it", before 5 and 7
   unfoldable pub U3 : ℕ → Came → (Bracket → Run K R) → Run K R
   U3 zero (To u) then = then u
   U3 zero (On h k') then = end (refuse 6)

@@ -1,8 +1,8 @@
--- `rules::updated` meets its contract. Assumes nothing.
+-- `decisions::updated` meets its contract. Assumes nothing.
 use Rattle.outcomes.proofs.Branches.{tests}
 use Rattle.rules.specs.Rules.{updatedOf}
-use Rattle.rules.proofs.updated.Statement.{statement}
-use Rattle.rules.proofs.updated.Tie as tie
+use Rattle.decisions.proofs.updated.Statement.{statement}
+use Rattle.decisions.proofs.updated.Tie as tie
 
 returns : tie.Need-returns
 unfolding updatedOf

@@ -1,8 +1,8 @@
--- `rules::or_else` meets its contract. Assumes nothing.
+-- `decisions::or_else` meets its contract. Assumes nothing.
 use Rattle.outcomes.proofs.Branches.{tests}
 use borrow.Author.Needs.{needs}
-use Rattle.rules.proofs.or_else.Statement.{statement}
-use Rattle.rules.proofs.or_else.Tie as tie
+use Rattle.decisions.proofs.or_else.Statement.{statement}
+use Rattle.decisions.proofs.or_else.Tie as tie
 
 returns : tie.Need-returns
 returns c = search (tests, c .before .e .given .1)

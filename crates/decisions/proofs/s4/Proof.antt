@@ -1,9 +1,9 @@
--- `rules::s4` meets its contract. Assumes nothing.
+-- `decisions::s4` meets its contract. Assumes nothing.
 use mathlib.Core.Path.{ap₂, _∙_}
 use Rattle.rules.specs.Rules.{orElse}
 use borrow.Author.Needs.{needs}
-use Rattle.rules.proofs.s4.Statement.{statement}
-use Rattle.rules.proofs.s4.Tie as tie
+use Rattle.decisions.proofs.s4.Statement.{statement}
+use Rattle.decisions.proofs.s4.Tie as tie
 
 returns : tie.Need-returns
 returns c = c .or-else .ensures ∙ ap₂ orElse (c .before .before .s3 .ensures) (c .before .s2 .ensures)

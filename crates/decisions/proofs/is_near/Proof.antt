@@ -1,7 +1,7 @@
--- `rules::is_near` meets its contract. Assumes nothing.
+-- `decisions::is_near` meets its contract. Assumes nothing.
 use borrow.Author.Needs.{needs}
-use Rattle.rules.proofs.is_near.Statement.{statement}
-use Rattle.rules.proofs.is_near.Tie as tie
+use Rattle.decisions.proofs.is_near.Statement.{statement}
+use Rattle.decisions.proofs.is_near.Tie as tie
 
 returns : tie.Need-returns
 returns c = rw (c .abs .ensures)

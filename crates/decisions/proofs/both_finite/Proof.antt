@@ -1,7 +1,7 @@
--- `rules::both_finite` meets its contract. Assumes nothing.
+-- `decisions::both_finite` meets its contract. Assumes nothing.
 use borrow.Author.Needs.{needs}
-use Rattle.rules.proofs.both_finite.Statement.{statement}
-use Rattle.rules.proofs.both_finite.Tie as tie
+use Rattle.decisions.proofs.both_finite.Statement.{statement}
+use Rattle.decisions.proofs.both_finite.Tie as tie
 
 returns : tie.Need-returns
 returns c = rw (c .is-finite2 .ensures, c .before .is-finite .ensures)

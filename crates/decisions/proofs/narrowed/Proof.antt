@@ -1,8 +1,8 @@
--- `rules::narrowed` meets its contract. Assumes nothing.
+-- `decisions::narrowed` meets its contract. Assumes nothing.
 use Rattle.outcomes.proofs.Branches.{tests}
 use Rattle.rules.specs.Rules.{narrowedOf}
-use Rattle.rules.proofs.narrowed.Statement.{statement}
-use Rattle.rules.proofs.narrowed.Tie as tie
+use Rattle.decisions.proofs.narrowed.Statement.{statement}
+use Rattle.decisions.proofs.narrowed.Tie as tie
 
 returns : tie.Need-returns
 unfolding narrowedOf

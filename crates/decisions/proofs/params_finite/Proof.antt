@@ -1,7 +1,7 @@
--- `rules::params_finite` meets its contract. Assumes nothing.
+-- `decisions::params_finite` meets its contract. Assumes nothing.
 use borrow.Author.Needs.{needs}
-use Rattle.rules.proofs.params_finite.Statement.{statement}
-use Rattle.rules.proofs.params_finite.Tie as tie
+use Rattle.decisions.proofs.params_finite.Statement.{statement}
+use Rattle.decisions.proofs.params_finite.Tie as tie
 
 returns : tie.Need-returns
 returns c =

@@ -1,7 +1,7 @@
--- `rules::supplied_finite` meets its contract. Assumes nothing.
+-- `decisions::supplied_finite` meets its contract. Assumes nothing.
 use borrow.Author.Needs.{needs}
-use Rattle.rules.proofs.supplied_finite.Statement.{statement}
-use Rattle.rules.proofs.supplied_finite.Tie as tie
+use Rattle.decisions.proofs.supplied_finite.Statement.{statement}
+use Rattle.decisions.proofs.supplied_finite.Tie as tie
 
 returns : tie.Need-returns
 returns c = rw (c .is-finite2 .ensures, c .before .is-finite .ensures, c .before .before .params-finite .ensures)

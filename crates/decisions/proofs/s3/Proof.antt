@@ -1,9 +1,9 @@
--- `rules::s3` meets its contract. Assumes nothing.
+-- `decisions::s3` meets its contract. Assumes nothing.
 use Rattle.outcomes.proofs.Branches.{tests}
 use Rattle.rules.specs.Rules.{S3}
 use borrow.Author.Needs.{needs}
-use Rattle.rules.proofs.s3.Statement.{statement}
-use Rattle.rules.proofs.s3.Tie as tie
+use Rattle.decisions.proofs.s3.Statement.{statement}
+use Rattle.decisions.proofs.s3.Tie as tie
 
 returns : tie.Need-returns
 unfolding S3

@@ -1,8 +1,8 @@
--- `rules::l2` meets its contract. Assumes nothing.
+-- `decisions::l2` meets its contract. Assumes nothing.
 use Rattle.outcomes.proofs.Branches.{tests}
 use Rattle.rules.specs.Rules.{L2}
-use Rattle.rules.proofs.l2.Statement.{statement}
-use Rattle.rules.proofs.l2.Tie as tie
+use Rattle.decisions.proofs.l2.Statement.{statement}
+use Rattle.decisions.proofs.l2.Tie as tie
 
 returns : tie.Need-returns
 unfolding L2

@@ -1,11 +1,11 @@
--- `rules::best` meets its contract: the last of the three tests gives a, and so does none of them. Assumes nothing.
+-- `decisions::best` meets its contract: the last of the three tests gives a, and so does none of them. Assumes nothing.
 use mathlib.Core.Path.{_≡_, refl}
 use mathlib.Core.Bool.{Bool, true, false, cond}
 use Rattle.outcomes.proofs.Branches.{if-yes, if-no}
 use Rattle.rules.specs.declared.Point.{Point}
 use Rattle.rules.specs.Rules.{lowest, bestOver}
-use Rattle.rules.proofs.best.Statement.{statement}
-use Rattle.rules.proofs.best.Tie as tie
+use Rattle.decisions.proofs.best.Statement.{statement}
+use Rattle.decisions.proofs.best.Tie as tie
 
 either-way : (b : Bool) (p : Point) → p ≡ cond b p p
 either-way true p = refl

@@ -1,9 +1,9 @@
--- `rules::judge` meets its contract. Assumes nothing.
+-- `decisions::judge` meets its contract. Assumes nothing.
 use Rattle.outcomes.proofs.Branches.{tests}
 use Rattle.rules.specs.Rules.{judgedOf}
 use borrow.Author.Needs.{needs}
-use Rattle.rules.proofs.judge.Statement.{statement}
-use Rattle.rules.proofs.judge.Tie as tie
+use Rattle.decisions.proofs.judge.Statement.{statement}
+use Rattle.decisions.proofs.judge.Tie as tie
 
 returns : tie.Need-returns
 unfolding judgedOf

@@ -1,9 +1,9 @@
--- `rules::s2` meets its contract. Assumes nothing.
+-- `decisions::s2` meets its contract. Assumes nothing.
 use Rattle.outcomes.proofs.Branches.{tests}
 use Rattle.rules.specs.Rules.{S2}
 use borrow.Author.Needs.{needs}
-use Rattle.rules.proofs.s2.Statement.{statement}
-use Rattle.rules.proofs.s2.Tie as tie
+use Rattle.decisions.proofs.s2.Statement.{statement}
+use Rattle.decisions.proofs.s2.Tie as tie
 
 returns : tie.Need-returns
 unfolding S2
