@@ -9,9 +9,9 @@ use lib.Ieee.{Float}
 use lib.Ieee.Scale.{finite}
 use borrow.Author.Tests.{le-leb, lt-leb, lt-ltb}
 use Rattle.floats.specs.Arithmetic.{_⊗_}
-use Rattle.numbers.specs.Answers.{Answer, value, refused, unless_refuse_else_}
+use Rattle.numbers.specs.Results.{Result, value, refused, unless_refuse_else_}
 use Rattle.outcomes.specs.Outcomes.{stop, limit, refusal, met, asks, told}
-use Rattle.outcomes.specs.Asking.{Search, over, respond, shown, firstOf, rest}
+use Rattle.outcomes.specs.Asking.{Search, over, respond, shown, firstOf, onceTold}
 use Rattle.outcomes.specs.Counters.{counted, evaluations, iterations}
 use Rattle.outcomes.proofs.Machines.{Seen, seen, picks, counts-on}
 use Rattle.outcomes.specs.declared.Evaluations.{Evaluations}
@@ -41,7 +41,7 @@ asked-shown s (suc k) before now t = refl
 
 -- a trial that is asked stands as it is, and tells its step
 asked : (s : Setup) (k before now : ℕ) (t : Float) → seen (trials s k before now t) ≡ (trials s k before now t, asks t)
-unfolding trials seen rest shown
+unfolding trials seen onceTold shown
 asked s zero before now t = refl
 asked s (suc k) before now t = refl
 
@@ -52,12 +52,12 @@ module _ (s : Setup) (fits : s .limit < 4294967296) (m : Evaluations) (now : Ite
   further (suc k) = cond (finite (t ⊗ s .rho)) (trials s k (now .0) (now .0 + 1) (t ⊗ s .rho)) (over (now .0) (refusal 5))
 
   ended : denote (madeOf s m now Over (Refused StepNotFinite)) ≡ seen (over (now .0) (refusal 5))
-  unfolding seen rest shown meaning
+  unfolding seen onceTold shown meaning
   ended = refl
 
   goes-on : (k : ℕ) → s .limit - now .0 ≡ k
       → denote (cond (leb (s .limit) (now .0)) (madeOf s m now Over (Limit t)) (cond (finite (t ⊗ s .rho)) (madeOf s m now (Later (t ⊗ s .rho)) (Ask (t ⊗ s .rho))) (madeOf s m now Over (Refused StepNotFinite)))) ≡ seen (further k)
-  unfolding further seen rest shown meaning
+  unfolding further seen onceTold shown meaning
   goes-on zero e = rw (le-leb (s .limit) (now .0) (omega arith))
   goes-on (suc k) e =
       let c : counted (now .0) ≡ now .0 + 1 = counts-on (now .0) (s .limit) fits (omega arith) in
@@ -66,11 +66,11 @@ module _ (s : Setup) (fits : s .limit < 4294967296) (m : Evaluations) (now : Ite
       (picks denote (finite (t ⊗ s .rho)) _ _ _ _ (rw (c, d) (sym (asked s k (now .0) (now .0 + 1) (t ⊗ s .rho)))) ended)
 
   meets : denote (madeOf s m now Over (Stop Met t)) ≡ seen (over (now .0) (stop met t))
-  unfolding seen rest shown meaning
+  unfolding seen onceTold shown meaning
   meets = refl
 
   refuses : (n : Evaluations) (before : Iterations) → denote (madeOf s n before Over (Refused SuppliedNotFinite)) ≡ seen (over (before .0) (refusal 2))
-  unfolding seen rest shown meaning
+  unfolding seen onceTold shown meaning
   refuses n before = refl
 
   -- one trial
@@ -95,7 +95,7 @@ answers-by : (s : Backtracking) → s .setup .limit < 4294967296 → (f g : Floa
 unfolding answerBy triedOf meaning
 answers-by s h f g First e = tests (s .setup) h _ (s .iterations) (s .setup .alpha) (s .evaluations) (s .iterations) f g _ refl
 answers-by s h f g (Later t) e = tests (s .setup) h _ (iterations (counted (s .iterations .0))) t (s .evaluations) (s .iterations) f g _ refl
-answers-by s h f g Over e = unfold seen respond rest shown in rw e
+answers-by s h f g Over e = unfold seen respond onceTold shown in rw e
 
 -- every answer to every state
 pub answers : (s : Backtracking) → s .setup .limit < 4294967296 → (f g : Float) → denote (answerOf s f g) ≡ seen (respond (meant s) f g)
@@ -108,7 +108,7 @@ follows s h f g r e =
     record { tells = ap (λ (p : Seen ℕ). p .1) z; leaves = ap (λ (p : Seen ℕ). p .0) z }
 
 -- `start`
-abbrev Starts-by : Setup → Started → Answer (Search ℕ) → Type 0
+abbrev Starts-by : Setup → Started → Result (Search ℕ) → Type 0
 Starts-by s r a = (startTold r ≡ a) × (startSays r ≡ firstOf a)
 
 starts-with : (s : Setup) (a b : Bool)

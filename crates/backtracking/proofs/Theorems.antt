@@ -12,7 +12,7 @@ use lib.Ieee.{Float}
 use lib.Ieee.Scale.{finite}
 use borrow.Author.Tests.{leb-true, lt-ltb}
 use Rattle.outcomes.specs.Outcomes.{met, stop, limit, refusal, Told, told}
-use Rattle.outcomes.specs.Asking.{Search, end, Over as Ended, over, Reply, respond, shown, reported, isOver, rest, outcomes, after, accepted, notFinite, reached, played}
+use Rattle.outcomes.specs.Asking.{Search, end, Over as Ended, over, Reply, respond, shown, reported, isOver, onceTold, outcomes, after, accepted, notFinite, reached, played}
 use Rattle.outcomes.specs.Counters.{counted, evaluations, iterations}
 use Rattle.outcomes.proofs.Ends.{Ends, at-end, ends-if, question-ends, ends-over, ends-accepted, non-finite-last as ends-non-finite-last, non-finite-once as ends-non-finite-once}
 use Rattle.outcomes.proofs.Branches.{either, by-test, and-second}
@@ -233,7 +233,7 @@ module _ (s : Setup) (b : Backtracking) (new : FreshSearch s b) (ys : List Reply
   fit-next : (c : Backtracking) → Fit c → (f g : Float) → Fit (next c f g)
   fit-next c e f g = setup-kept c f g (c .stage) ∙ e
 
-  leaves : (c : Backtracking) → Fit c → (f g : Float) → meant (next c f g) ≡ rest (respond (meant c) f g)
+  leaves : (c : Backtracking) → Fit c → (f g : Float) → meant (next c f g) ≡ onceTold (respond (meant c) f g)
   leaves c e f g = follows c (fit-limit c e) f g (answerOf c f g) refl .leaves
 
   tells : (c : Backtracking) → Fit c → (f g : Float) → says c f g ≡ shown (respond (meant c) f g)

@@ -5,9 +5,9 @@ use lib.Dec.{leb}
 use lib.Ieee.{Float, binary64, ofBits}
 use lib.Ieee.Scale.{finite}
 use Rattle.floats.specs.Arithmetic.{_⊗_, _<ᶠ_, 0ᶠ, 1ᶠ}
-use Rattle.numbers.specs.Answers.{Answer, value, refused, unless_refuse_else_}
+use Rattle.numbers.specs.Results.{Result, value, refused, unless_refuse_else_}
 use Rattle.outcomes.specs.Outcomes.{met, stop, limit, refusal}
-use Rattle.outcomes.specs.Asking.{Search, over, leaving, question}
+use Rattle.outcomes.specs.Asking.{Search, over, keeping, question}
 use Rattle.conditions.specs.declared.Condition.{Condition}
 use Rattle.conditions.specs.Conditions.{constantsFinite, inRange, answerFinite, holdsOf}
 use Rattle.backtracking.specs.declared.Setup.{Setup}
@@ -43,7 +43,7 @@ module _ (s : Setup) where
   -- The stop has "the verdict "met" and the step".
   abbrev tested : ℕ → ℕ → Float → Search ℕ → Search ℕ
   tested before now t further =
-      question (answerFinite (s .condition)) (leaving before) before t λ f g.
+      question (answerFinite (s .condition)) (keeping before) before t λ f g.
       cond (holdsOf (s .condition) (s .f0) (s .s0) t f g) (over now (stop met t)) further
 
   -- n trials may follow this one; "its limit has the last step tested". Refusal 5: "the next trial step comes out not finite; nothing is asked"
@@ -55,7 +55,7 @@ module _ (s : Setup) where
 abbrev pub search : Setup → Search ℕ
 search s = trials s (s .limit) 0 0 (s .alpha)
 
-abbrev pub started : Setup → Answer (Search ℕ)
+abbrev pub started : Setup → Result (Search ℕ)
 started s =
     unless (suppliedFinite s) refuse 2 else
     unless (inRanges s) refuse 3 else

@@ -2,9 +2,9 @@
 use Prim.Native.Nat.{ℕ, _-_}
 use mathlib.Core.Path.{_≡_}
 use lib.Ieee.{Float}
-use Rattle.numbers.specs.Answers.{Answer, value, refused}
+use Rattle.numbers.specs.Results.{Result, value, refused}
 use Rattle.outcomes.specs.Outcomes.{refusal, Told, ends, numberOf, told}
-use Rattle.outcomes.specs.Asking.{Search, over, respond, shown, firstOf, rest}
+use Rattle.outcomes.specs.Asking.{Search, over, respond, shown, firstOf, onceTold}
 use Rattle.outcomes.specs.Counters.{counted}
 use Rattle.backtracking.specs.declared.Setup.{Setup}
 use Rattle.backtracking.specs.declared.Stage.{Stage}
@@ -25,7 +25,7 @@ meant s = meaning (s .setup) (s .iterations .0) (s .stage)
 
 -- ---- `start`: the refusal's number, or the search that 01's rules are; and what is told first
 
-abbrev pub startTold : Started → Answer (Search ℕ)
+abbrev pub startTold : Started → Result (Search ℕ)
 startTold (Began r) = value (meant (r .search))
 startTold (NoSearch k) = refused (numberOf k)
 
@@ -42,4 +42,4 @@ pub record Starts (s : Setup) (r : Started) : Type 0 where
 
 pub record Follows (s : Backtracking) (f g : Float) (r : Step) : Type 0 where
   pub tells : told (r .outcome) ≡ shown (respond (meant s) f g)
-  pub leaves : meant (r .search) ≡ rest (respond (meant s) f g)
+  pub leaves : meant (r .search) ≡ onceTold (respond (meant s) f g)

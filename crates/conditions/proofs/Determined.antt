@@ -1,6 +1,6 @@
 -- Any two answers that `checked`'s contract allows are identical. The other contracts give the result itself. Assumes nothing.
 use mathlib.Core.Path.{_≡_, refl, ap}
-use Rattle.numbers.specs.Answers.{Answer, value, refused}
+use Rattle.numbers.specs.Results.{Result, value, refused}
 use Rattle.numbers.proofs.Determined.{determined}
 use Rattle.outcomes.proofs.Determined.{withNumber, number-back}
 use Rattle.conditions.specs.declared.Condition.{Condition}
@@ -8,7 +8,7 @@ use Rattle.conditions.specs.declared.Checked.{Checked}
 use Rattle.conditions.specs.declared.Checked.the-variants.{Fit, Unfit}
 use Rattle.conditions.specs.Told.{checkedTold}
 
-read : Answer Condition → Checked
+read : Result Condition → Checked
 read (value c) = Fit c
 read (refused n) = Unfit (withNumber n)
 

@@ -3,7 +3,7 @@ use mathlib.Core.Bool.{Bool, true, false, cond, _&&_}
 use lib.Ieee.{Float}
 use lib.Ieee.Scale.{finite}
 use Rattle.floats.specs.Arithmetic.{_⊕_, _⊖_, _⊗_, _<ᶠ_, _≤ᶠ_, _≥ᶠ_, 0ᶠ, ½ᶠ, 1ᶠ}
-use Rattle.numbers.specs.Answers.{Answer, value, refused, unless_refuse_else_}
+use Rattle.numbers.specs.Results.{Result, value, refused, unless_refuse_else_}
 use Rattle.numbers.specs.Numbers.{absOf}
 use Rattle.conditions.specs.declared.Condition.{Condition}
 use Rattle.conditions.specs.declared.Condition.the-variants.{Armijo, Goldstein, Wolfe, StrongWolfe}
@@ -26,7 +26,7 @@ inRange (Wolfe c1 c2) = 0ᶠ <ᶠ c1 && c1 <ᶠ c2 && c2 <ᶠ 1ᶠ
 inRange (StrongWolfe c1 c2) = 0ᶠ <ᶠ c1 && c1 <ᶠ c2 && c2 <ᶠ 1ᶠ
 
 -- A condition by itself. (A search's start looks at all its numbers first, and then at all ranges.)
-abbrev pub checkedOf : Condition → Answer Condition
+abbrev pub checkedOf : Condition → Result Condition
 checkedOf C =
     unless (constantsFinite C) refuse 2 else
     unless (inRange C) refuse 3 else

@@ -7,7 +7,7 @@ use lib.IntN.{ℤ, pos, negsuc}
 use lib.ListN.{getD}
 use lib.Ieee.{Float, binary64, ofBits, ofInt}
 use Rattle.floats.specs.Arithmetic.{_⊕_, _⊗_, 2ᶠ}
-use Rattle.numbers.specs.Answers.{Answer, value, refused, unless_refuse_else_}
+use Rattle.numbers.specs.Results.{Result, value, refused, unless_refuse_else_}
 use Rattle.curves.specs.declared.Curve.{Curve}
 
 -- -1, -2, -3, ..
@@ -64,5 +64,5 @@ abbrev pub slopeOf : Curve → Float → Float
 slopeOf c x = ((4ᶠ ⊗ c .c4 ⊗ x ⊕ 3ᶠ ⊗ c .c3) ⊗ x ⊕ 2ᶠ ⊗ c .c2) ⊗ x ⊕ c .c1
 
 -- the curve number, or refusal 3: "a parameter, B, N or curve number is outside its range"
-abbrev pub numberedOf : ℕ → Answer Curve
+abbrev pub numberedOf : ℕ → Result Curve
 numberedOf n = unless (leb 1 n && leb n 8) refuse 3 else value (curveAt ((n - 1) * 5))

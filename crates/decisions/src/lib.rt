@@ -10,12 +10,12 @@ use rules::Params;
 use rules::Point;
 use rules::Setup;
 ghost use mathlib.Core.Path.{_≡_};
-ghost use Rattle.rules.specs.Parameters.{defaultsOf, paramsFinite, suppliedFinite, inRanges};
+ghost use Rattle.rules.specs.Parameters.{defaultOptions, paramsFinite, suppliedFinite, inRanges};
 ghost use Rattle.rules.specs.Rules.{answerFinite, secantOf, updatedOf, middleOf, narrowedOf, near, S2, S3, S4, orElse, L2, bestOf, wolfeHolds, approximateHolds, judgedOf};
 
 // argmin's parameters, and a budget and a limit of 100.
 pub fn defaults() -> Options
-    ensures { λ r. ⌜ r ≡ defaultsOf ⌝ }
+    ensures { λ r. ⌜ r ≡ defaultOptions ⌝ }
 {
     Options {
         params: Params {

@@ -14,7 +14,7 @@ use lib.ListN.{length}
 use lib.Ieee.{Float}
 use lib.Ieee.Scale.{finite}
 use Rattle.floats.specs.Arithmetic.{_⊗_}
-use Rattle.numbers.specs.Answers.{Answer, value, refused, unless_refuse_else_}
+use Rattle.numbers.specs.Results.{Result, value, refused, unless_refuse_else_}
 use Rattle.numbers.specs.declared.PointResult.{PointResult}
 use Rattle.numbers.specs.Numbers.{sized, allFinite, products, leftSum, dotOf, moved, pointOf, heldAfter}
 use Rattle.numbers.specs.Told.{pointTold}
@@ -54,7 +54,7 @@ use Rattle.demands.proofs.Determined.{PointSaid}
 use Rattle.demands.specs.Refusals.{badLength, dotRows, pointRows, conditionRows, curveRows, jobRows, trialsStartRows, triedOut, nextTrial, trialDue, notFinite, trialsRows, trialsKept}
 
 -- ---- an answer that is a value or a refusal
-abbrev pub refusedBy : {A : Type 0} → Answer A → Option ℕ
+abbrev pub refusedBy : {A : Type 0} → Result A → Option ℕ
 refusedBy (value a) = none
 refusedBy (refused n) = some n
 
@@ -132,7 +132,7 @@ by-setup j true false d = refl
 by-setup j false b d = refl
 
 -- what is no job is 9
-job-table : (a : Answer Job) → ((n : ℕ) → a ≡ refused n → n ≡ 9) → Table (refusedBy (beginsBy a)) (jobRows a)
+job-table : (a : Result Job) → ((n : ℕ) → a ≡ refused n → n ≡ 9) → Table (refusedBy (beginsBy a)) (jobRows a)
 unfolding given inOrder admittedOf
 job-table (refused n) nine = record { exactly = ap some (nine n refl); ordered = refl }
 job-table (value j) nine = record {
@@ -238,7 +238,7 @@ trials-answered b f g (Later t) w = tried b f g (Later t) w refl (iterations (co
 trials-answered b f g TriedOut w = record { refused-by = record { exactly = rw w; ordered = refl }; unchanged = λ q. refl; over = λ n q. rw w; keeps = λ n q. rw w; counts = rw w }
 
 -- "buffers untouched": what `point` is lent holds at exit what it held
-untouched : (a : Answer (List Float)) (held : List Float) (n : ℕ) → refusedBy a ≡ some n → heldAfter a held ≡ held
+untouched : (a : Result (List Float)) (held : List Float) (n : ℕ) → refusedBy a ≡ some n → heldAfter a held ≡ held
 untouched (value p) held n e = none-refused n e
 untouched (refused m) held n e = refl
 

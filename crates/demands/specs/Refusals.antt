@@ -12,7 +12,7 @@ use Rattle.floats.specs.Arithmetic.{_⊗_}
 use Rattle.numbers.specs.Numbers.{allFinite, products, leftSum, moved}
 use Rattle.outcomes.specs.Counters.{counted}
 use Rattle.outcomes.specs.Refusals.{Row}
-use Rattle.numbers.specs.Answers.{Answer, value, refused}
+use Rattle.numbers.specs.Results.{Result, value, refused}
 use Rattle.rules.specs.Parameters.{paramsFinite, inRanges, epsilonK, levelOf}
 use Rattle.jobs.specs.declared.Job.{Job}
 use Rattle.jobs.specs.Start.{hasCurve, f0Of}
@@ -55,7 +55,7 @@ curveRows n = (3, eqb n 0 || ltb 8 n) ∷ []
 
 -- a job, by what its bytes are read as: "the job is malformed", which is every job that 01's format does not hold (jobs/proofs/BothWays.antt); then over the whole
 -- job 2, 3 and 4
-abbrev pub jobRows : Answer Job → List Row
+abbrev pub jobRows : Result Job → List Row
 jobRows (refused n) = (9, true) ∷ []
 jobRows (value j) =
     (9, false)

@@ -10,9 +10,9 @@ use lib.Ieee.{Float}
 use lib.Ieee.Scale.{finite}
 use borrow.Author.Tests.{leb-true, leb-false, lt-ltb, ne-eqb}
 use Rattle.floats.specs.Arithmetic.{_<ᶠ_}
-use Rattle.numbers.specs.Answers.{Answer, value, refused, unless_refuse_else_}
+use Rattle.numbers.specs.Results.{Result, value, refused, unless_refuse_else_}
 use Rattle.outcomes.specs.Outcomes.{limit, told}
-use Rattle.outcomes.specs.Asking.{Search as Run, end, over, leaving, respond, shown, firstOf, rest}
+use Rattle.outcomes.specs.Asking.{Search as Run, end, over, keeping, respond, shown, firstOf, onceTold}
 use Rattle.outcomes.specs.Counters.{counted, evaluations, iterations}
 use Rattle.outcomes.proofs.Machines.{Seen, seen, picks, counts-on}
 use Rattle.outcomes.specs.declared.Evaluations.{Evaluations}
@@ -74,8 +74,8 @@ module _ (s : Setup) (fin : Finished) where
   put t = denote s (madeBy fin t)
 
   -- a trial (5)
-  tries : (rule : Rule) (w : Bracket) (x : Float) → moved (Try w (trialAt rule x)) ≡ seen (trial s (leaving k) k x (λ c. update s (leaving k) k w c (afterTrial s fin rule x)))
-  unfolding attemptOf testedOf madeBy trial onAnswer comesOf leftOf keptOf stepOf askedStep keptReport denote seen rest shown meaning
+  tries : (rule : Rule) (w : Bracket) (x : Float) → moved (Try w (trialAt rule x)) ≡ seen (trial s (keeping k) k x (λ c. update s (keeping k) k w c (afterTrial s fin rule x)))
+  unfolding attemptOf testedOf madeBy trial onAnswer comesOf leftOf keptOf stepOf askedStep keptReport denote seen onceTold shown meaning
   tries rule w x = picks put (finite x) _ _ _ _ refl refl
 
 -- ---- the start or an iteration is finished: the verdict, the limit, and S1 of the next iteration
@@ -89,7 +89,7 @@ module _ (s : Setup) (h : s .options .limit < 4294967296) (w : Bracket) (c : Poi
   -- what follows the verdict, while n iterations may be begun
   onwards : ℕ → Run Report
   onwards zero = over (reportOf s w c i) (limit (bestOf (w .a) (w .b) c .x))
-  onwards (suc n) = iteration s (leaving (reportOf s w c i)) (reportOf s w c i) w (λ v. rounds s n v c (i + 1))
+  onwards (suc n) = iteration s (keeping (reportOf s w c i)) (reportOf s w c i) w (λ v. rounds s n v c (i + 1))
 
   round-is : (n : ℕ) → verdict s w c i (onwards n) ≡ rounds s n w c i
   unfolding onwards rounds
@@ -97,7 +97,7 @@ module _ (s : Setup) (h : s .options .limit < 4294967296) (w : Bracket) (c : Poi
   round-is (suc n) = refl
 
   limits : (n : ℕ) → n ≡ 0 → moved s done ByLimit ≡ seen (onwards n)
-  unfolding onwards testedOf madeBy denote seen rest shown keptReport meaning
+  unfolding onwards testedOf madeBy denote seen onceTold shown keptReport meaning
   limits n e = rw e
 
   begins : (n : ℕ) → counted i ≡ i + 1 → n ≡ suc (N - counted i) → moved s done (Try w (trialAt ByS1 (secantOf (w .a) (w .b)))) ≡ seen (onwards n)
@@ -117,7 +117,7 @@ module _ (s : Setup) (h : s .options .limit < 4294967296) (w : Bracket) (c : Poi
 
   judges : (go : Run Report) → moved s done (outlookBy s done Fails) ≡ seen go → (j : Judged)
       → moved s done (outlookBy s done j) ≡ seen (decided (reportOf s w c i) (done .best .x) go j)
-  unfolding outlookBy decided testedOf madeBy denote seen rest shown keptReport meaning
+  unfolding outlookBy decided testedOf madeBy denote seen onceTold shown keptReport meaning
   judges go e (Holds v) = refl
   judges go e Fails = e
 
@@ -136,19 +136,19 @@ module _ (s : Setup) (h : s .options .limit < 4294967296) (fin : Finished) where
 
   -- a further trial, or otherwise what follows
   tried : (u : Bracket) (rule : Rule) (otherwise : Then) (then : Bracket → Run Report) (f : Further) → went s fin otherwise ≡ seen (then u)
-      → ((x : Float) → then ≡ afterTrial s fin rule x) → went s fin (triedBy u rule otherwise f) ≡ seen (further s (leaving (lastOf fin)) (lastOf fin) f u then)
+      → ((x : Float) → then ≡ afterTrial s fin rule x) → went s fin (triedBy u rule otherwise f) ≡ seen (further s (keeping (lastOf fin)) (lastOf fin) f u then)
   unfolding triedBy further wentOf
   tried u rule otherwise then (At x) e same = rw (same x) (tries s fin rule u x)
   tried u rule otherwise then Nothing e same = e
 
-  after-S4 : (v : Bracket) → went s fin (afterS4Of gamma (fin .bracket) v) ≡ seen (afterS4 s (leaving (lastOf fin)) (lastOf fin) (fin .bracket) v (ended s fin))
+  after-S4 : (v : Bracket) → went s fin (afterS4Of gamma (fin .bracket) v) ≡ seen (afterS4 s (keeping (lastOf fin)) (lastOf fin) (fin .bracket) v (ended s fin))
   unfolding afterS4 afterTrial
   after-S4 v = tried v ByL2 (Close v) (ended s fin) (L2 gamma (fin .bracket) v) (closes v) (λ x. refl)
 
-  after-S1 : (c : Float) (u : Bracket) → went s fin (afterS1Of gamma (fin .bracket) c u) ≡ seen (afterS1 s (leaving (lastOf fin)) (lastOf fin) (fin .bracket) c u (ended s fin))
+  after-S1 : (c : Float) (u : Bracket) → went s fin (afterS1Of gamma (fin .bracket) c u) ≡ seen (afterS1 s (keeping (lastOf fin)) (lastOf fin) (fin .bracket) c u (ended s fin))
   unfolding afterS1 afterTrial
   after-S1 c u =
-      tried u ByS4 (afterS4Of gamma (fin .bracket) u) (λ v. afterS4 s (leaving (lastOf fin)) (lastOf fin) (fin .bracket) v (ended s fin))
+      tried u ByS4 (afterS4Of gamma (fin .bracket) u) (λ v. afterS4 s (keeping (lastOf fin)) (lastOf fin) (fin .bracket) v (ended s fin))
       (S4 (fin .bracket) c u) (after-S4 u) (λ x. refl)
 
   follows-on : (rule : Rule) (c : Float) (u : Bracket) → went s fin (followBy gamma (fin .bracket) c u rule) ≡ seen (afterTrial s fin rule c u)
@@ -162,8 +162,8 @@ module _ (s : Setup) (h : s .options .limit < 4294967296) (fin : Finished) where
     goes-on = afterTrial s fin (t .rule) (t .x)
 
     -- U3 while n answers may come
-    narrows : (n : ℕ) (came : Came) → went s fin (onwardOf gamma (fin .bracket) t n came) ≡ seen (U3 s (leaving (lastOf fin)) (lastOf fin) n came goes-on)
-    unfolding onwardOf wentOf probeOf testedOf madeBy U3 between meaning onAnswer comesOf leftOf keptOf stepOf askedStep keptReport denote seen rest shown
+    narrows : (n : ℕ) (came : Came) → went s fin (onwardOf gamma (fin .bracket) t n came) ≡ seen (U3 s (keeping (lastOf fin)) (lastOf fin) n came goes-on)
+    unfolding onwardOf wentOf probeOf testedOf madeBy U3 between meaning onAnswer comesOf leftOf keptOf stepOf askedStep keptReport denote seen onceTold shown
     narrows zero (To u) = follows-on (t .rule) (t .x) u
     narrows zero (On a k') = refl
     narrows (suc n) (To u) = follows-on (t .rule) (t .x) u
@@ -180,20 +180,20 @@ module _ (s : Setup) (h : s .options .limit < 4294967296) where
   -- every finite answer
   reacts : (waiting : Waiting) (f g : Float) → denote s (reactOf s waiting f g) ≡ seen (onAnswer s waiting f g)
   unfolding reactOf onAnswer
-  reacts Low f g = unfold askHigh keptOf stepOf keptReport denote seen rest shown meaning in refl
-  reacts (High a) f g = unfold askStart keptOf stepOf keptReport denote seen rest shown meaning in refl
+  reacts Low f g = unfold askHigh keptOf stepOf keptReport denote seen onceTold shown meaning in refl
+  reacts (High a) f g = unfold askStart keptOf stepOf keptReport denote seen onceTold shown meaning in refl
   reacts (Start w) f g = starts-rounds w (point (s .options .params .start) f g)
   reacts (Running fin t asked) f g = narrows s h fin t (leftOf (s .options .budget) asked) (comesOf (s .level) t asked f g)
 
   answered : (n : Evaluations) (waiting : Waiting) (f g : Float) → denoteStep (takenOf s n waiting f g) ≡ seen (respond (meaning s (Open waiting)) f g)
-  unfolding takenOf respond denote denoteStep seen rest shown meaning
+  unfolding takenOf respond denote denoteStep seen onceTold shown meaning
   answered n waiting f g = picks denoteStep (answerFinite f g) _ _ _ _ (reacts waiting f g) refl
 
 answers-by : (s : Search) → s .setup .options .limit < 4294967296 → (f g : Float) (stage : Stage) → s .stage ≡ stage
     → denoteStep (answerBy s f g stage) ≡ seen (respond (meaning (s .setup) stage) f g)
 unfolding answerBy
 answers-by s h f g (Open waiting) e = answered (s .setup) h (s .evaluations) waiting f g
-answers-by s h f g (Over kept) e = unfold denoteStep seen respond rest shown meaning in rw e
+answers-by s h f g (Over kept) e = unfold denoteStep seen respond onceTold shown meaning in rw e
 
 -- every answer to every state
 answers : (s : Search) → s .setup .options .limit < 4294967296 → (f g : Float) → denoteStep (answerOf s f g) ≡ seen (respond (meant s) f g)
@@ -218,7 +218,7 @@ first-asked : (s : Setup) → told (fresh s .outcome) ≡ shown (search s)
 unfolding shown search
 first-asked s = refl
 
-abbrev StartsBy : Started → Answer Setup → Type 0
+abbrev StartsBy : Started → Result Setup → Type 0
 StartsBy r a = (startTold r ≡ begun a) × (startSays r ≡ firstOf (begun a))
 
 starts-with : (s : Setup) (a b d : Bool)

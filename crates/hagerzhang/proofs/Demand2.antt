@@ -13,7 +13,7 @@ use lib.Ieee.{Float}
 use lib.Ieee.Scale.{finite}
 use borrow.Author.Tests.{leb-true}
 use Rattle.outcomes.specs.Outcomes.{refusal, Told, told}
-use Rattle.outcomes.specs.Asking.{Search as Run, over, Reply, respond, shown, reported, isOver, rest, outcomes, after, accepted, notFinite, reached, played}
+use Rattle.outcomes.specs.Asking.{Search as Run, over, Reply, respond, shown, reported, isOver, onceTold, outcomes, after, accepted, notFinite, reached, played}
 use Rattle.outcomes.specs.Counters.{counted}
 use Rattle.outcomes.proofs.Ends.{ends-over, ends-accepted, non-finite-last as ends-non-finite-last, non-finite-once as ends-non-finite-once}
 use Rattle.outcomes.proofs.Branches.{either, by-test, and-first, and-second}
@@ -26,7 +26,7 @@ use Rattle.hagerzhang.specs.declared.Stage.the-variants.{Open, Over}
 use Rattle.hagerzhang.specs.declared.Search.{Search}
 use Rattle.hagerzhang.specs.declared.Step.{Step}
 use Rattle.hagerzhang.specs.declared.Started.the-variants.{Began, NoSearch}
-use Rattle.rules.specs.Parameters.{suppliedFinite, wolfeInRange, factorsInRange, boundsInRange, countsInRange, inRanges, epsilonK, levelOf, setupOf}
+use Rattle.rules.specs.Parameters.{suppliedFinite, deltaSigmaInRange, factorsInRange, boundsInRange, countsInRange, inRanges, epsilonK, levelOf, setupOf}
 use Rattle.rules.specs.Rules.{answerFinite, Report, search}
 use Rattle.hagerzhang.specs.Machine.{takenOf, answerBy, answerOf, fresh, startOf}
 use Rattle.hagerzhang.specs.Meaning.{stageReport, report, meaning, meant}
@@ -86,7 +86,7 @@ first-ask o f0 s0 r e =
 
 -- ---- the counts' ranges
 counts-ok : (s : Setup) → Accepted s → countsInRange (s .options) ≡ true
-counts-ok s a = and-second (wolfeInRange (s .options .params) && factorsInRange (s .options .params) && boundsInRange (s .options .params)) (countsInRange (s .options)) (a .ranges)
+counts-ok s a = and-second (deltaSigmaInRange (s .options .params) && factorsInRange (s .options .params) && boundsInRange (s .options .params)) (countsInRange (s .options)) (a .ranges)
 
 limit-fits : (s : Setup) → Accepted s → s .options .limit ≤ 10000
 limit-fits s a =
@@ -138,7 +138,7 @@ module _ (s : Setup) (b : Search) (new : FreshSearch s b) (ys : List Reply) wher
   fit-next : (c : Search) → Fit c → (f g : Float) → Fit (next c f g)
   fit-next c e f g = setup-kept c f g (c .stage) ∙ e
 
-  leaves : (c : Search) → Fit c → (f g : Float) → meant (next c f g) ≡ rest (respond (meant c) f g)
+  leaves : (c : Search) → Fit c → (f g : Float) → meant (next c f g) ≡ onceTold (respond (meant c) f g)
   leaves c e f g = follows c (fit-limit c e) f g (answerOf c f g) refl .leaves
 
   tells : (c : Search) → Fit c → (f g : Float) → says c f g ≡ shown (respond (meant c) f g)

@@ -11,7 +11,7 @@ use Rattle.outcomes.proofs.Branches.{and-first, and-second}
 use Rattle.rules.specs.declared.Point.{Point}
 use Rattle.rules.specs.declared.Setup.{Setup}
 use Rattle.hagerzhang.specs.declared.Search.{Search}
-use Rattle.rules.specs.Parameters.{wolfeInRange, factorsInRange, boundsInRange, countsInRange}
+use Rattle.rules.specs.Parameters.{deltaSigmaInRange, factorsInRange, boundsInRange, countsInRange}
 use Rattle.rules.specs.Rules.{Last, Report, last, search}
 use Rattle.hagerzhang.specs.Meaning.{report}
 use Rattle.rules.proofs.Iterations.{Bracketed, Within}
@@ -23,7 +23,7 @@ use Rattle.hagerzhang.proofs.Demand2.{Accepted, FreshSearch, reachedBy,
 pub ends-ordered : (s : Setup) → Accepted s → s .options .params .min <ᶠ s .options .params .max ≡ true
 ends-ordered s a =
     let p = s .options .params in
-    let w = wolfeInRange p in
+    let w = deltaSigmaInRange p in
     let f = factorsInRange p in
     let b = boundsInRange p in
     and-second (0ᶠ ≤ᶠ p .min) (p .min <ᶠ p .max) (and-second (w && f) b (and-first (w && f && b) (countsInRange (s .options)) (a .ranges)))

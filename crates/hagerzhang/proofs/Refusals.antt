@@ -8,7 +8,7 @@ use lib.Dec.{eqb}
 use lib.Ieee.{Float}
 use lib.Ieee.Scale.{finite}
 use Rattle.floats.specs.Arithmetic.{_<ᶠ_}
-use Rattle.numbers.specs.Answers.{refused}
+use Rattle.numbers.specs.Results.{refused}
 use Rattle.outcomes.specs.Outcomes.{told}
 use Rattle.outcomes.specs.Refusals.{given, inOrder, Table, refusalIn}
 use Rattle.outcomes.specs.Counters.{counted, evaluations}

@@ -8,7 +8,7 @@ use lib.Ieee.{Float}
 use Rattle.floats.specs.Arithmetic.{_<ᶠ_}
 use Rattle.floats.proofs.Order.{lt-irrefl}
 use Rattle.outcomes.specs.Outcomes.{Told, asks, ends}
-use Rattle.outcomes.specs.Asking.{Search as Run, Reply, respond, shown, rest, reached}
+use Rattle.outcomes.specs.Asking.{Search as Run, Reply, respond, shown, onceTold, reached}
 use Rattle.rules.specs.declared.Setup.{Setup}
 use Rattle.hagerzhang.specs.declared.Search.{Search}
 use Rattle.hagerzhang.specs.declared.Step.{Step}
@@ -32,14 +32,14 @@ first-step : (s : Setup) → shown (search s) ≡ asks (s .options .params .min)
 unfolding search shown
 first-step s = refl
 
-second-step : (s : Setup) (f g : Float) → answerFinite f g ≡ true → shown (rest (respond (search s) f g)) ≡ asks (s .options .params .max)
-unfolding search shown respond rest askHigh
+second-step : (s : Setup) (f g : Float) → answerFinite f g ≡ true → shown (onceTold (respond (search s) f g)) ≡ asks (s .options .params .max)
+unfolding search shown respond onceTold askHigh
 second-step s f g e = rw e
 
 pub untouched-shut-out : (s : Setup) (b : Search) → FreshSearch s b → (f g : Float) → answerFinite f g ≡ true → (r : Step) → Follows b f g r → r .search ≡ b → ⊥
 unfolding step-in
 untouched-shut-out s b new f g e r follows same =
     let p = s .options .params in
-    let left : search s ≡ rest (respond (search s) f g) = subst (λ (q : Run Report). q ≡ rest (respond q f g)) (new .stands-for) (sym (ap meant same) ∙ follows .leaves) in
+    let left : search s ≡ onceTold (respond (search s) f g) = subst (λ (q : Run Report). q ≡ onceTold (respond q f g)) (new .stands-for) (sym (ap meant same) ∙ follows .leaves) in
     let bounds : p .min ≡ p .max = ap (step-in (p .min)) (sym (first-step s) ∙ ap shown left ∙ second-step s f g e) in
     false≢true (sym (lt-irrefl (p .max)) ∙ subst (λ (x : Float). x <ᶠ p .max ≡ true) bounds (ends-ordered s (new .accepted-setup)))

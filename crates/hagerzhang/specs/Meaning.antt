@@ -2,9 +2,9 @@
 use Prim.Native.Nat.{ℕ, _-_}
 use mathlib.Core.Path.{_≡_}
 use lib.Ieee.{Float}
-use Rattle.numbers.specs.Answers.{Answer, value, refused}
+use Rattle.numbers.specs.Results.{Result, value, refused}
 use Rattle.outcomes.specs.Outcomes.{refusal, Told, ends, numberOf, told}
-use Rattle.outcomes.specs.Asking.{Search as Run, over, leaving, question, respond, shown, firstOf, rest}
+use Rattle.outcomes.specs.Asking.{Search as Run, over, keeping, question, respond, shown, firstOf, onceTold}
 use Rattle.outcomes.specs.Counters.{counted}
 use Rattle.rules.specs.declared.Point.{Point}
 use Rattle.rules.specs.declared.Bracket.{Bracket}
@@ -56,13 +56,13 @@ module _ (s : Setup) (fin : Finished) where
 
   -- how the iteration goes on from the update of a trial at c
   unfoldable pub afterTrial : Rule → Float → Bracket → Run Report
-  afterTrial S1 c u = afterS1 s (leaving (lastOf fin)) (lastOf fin) (fin .bracket) c u ended
-  afterTrial S4 c u = afterS4 s (leaving (lastOf fin)) (lastOf fin) (fin .bracket) u ended
+  afterTrial S1 c u = afterS1 s (keeping (lastOf fin)) (lastOf fin) (fin .bracket) c u ended
+  afterTrial S4 c u = afterS4 s (keeping (lastOf fin)) (lastOf fin) (fin .bracket) u ended
   afterTrial L2 c u = ended u
 
   abbrev pub onAsked : Trial → Asked → Float → Float → Run Report
   onAsked t asked f g =
-      U3 s (leaving (lastOf fin)) (lastOf fin) (leftOf (s .options .budget) asked) (comesOf (s .level) t asked f g) (afterTrial (t .rule) (t .x))
+      U3 s (keeping (lastOf fin)) (lastOf fin) (leftOf (s .options .budget) asked) (comesOf (s .level) t asked f g) (afterTrial (t .rule) (t .x))
 
 -- what a finite answer leads to, and the step that is asked
 unfoldable pub onAnswer : Setup → Waiting → Float → Float → Run Report
@@ -82,7 +82,7 @@ stepOf s (Start w) = s .options .params .start
 stepOf s (Running fin t asked) = askedStep t asked
 
 unfoldable pub meaning : Setup → Stage → Run Report
-meaning s (Open waiting) = question answerFinite (leaving (keptReport (keptOf waiting))) (keptReport (keptOf waiting)) (stepOf s waiting) (onAnswer s waiting)
+meaning s (Open waiting) = question answerFinite (keeping (keptReport (keptOf waiting))) (keptReport (keptOf waiting)) (stepOf s waiting) (onAnswer s waiting)
 meaning s (Over kept) = over (keptReport kept) (refusal 8)
 
 abbrev pub meant : Search → Run Report
@@ -90,11 +90,11 @@ meant s = meaning (s .setup) (s .stage)
 
 -- ---- `start`: the refusal's number, or the search that 01's rules are for the accepted setup
 
-abbrev pub startTold : Started → Answer (Run Report)
+abbrev pub startTold : Started → Result (Run Report)
 startTold (Began r) = value (meant (r .search))
 startTold (NoSearch k) = refused (numberOf k)
 
-abbrev pub begun : Answer Setup → Answer (Run Report)
+abbrev pub begun : Result Setup → Result (Run Report)
 begun (value s) = value (search s)
 begun (refused n) = refused n
 
@@ -111,4 +111,4 @@ pub record Starts (o : Options) (f0 s0 : Float) (r : Started) : Type 0 where
 
 pub record Follows (s : Search) (f g : Float) (r : Step) : Type 0 where
   pub tells : told (r .outcome) ≡ shown (respond (meant s) f g)
-  pub leaves : meant (r .search) ≡ rest (respond (meant s) f g)
+  pub leaves : meant (r .search) ≡ onceTold (respond (meant s) f g)

@@ -12,7 +12,7 @@ use lib.ListN.{length, take, drop, length-append, length-drop, take-append-drop}
 use lib.Seq.{take-append-seam, drop-append-seam, drop-drop, length-take-le}
 use borrow.Author.Tests.{le-leb, lt-leb, eq-eqb, ne-eqb, leb-true, eqb-true, eqb-false}
 use Rattle.outcomes.proofs.Branches.{and-first, and-second}
-use Rattle.numbers.specs.Answers.{Answer, value, refused}
+use Rattle.numbers.specs.Results.{Result, value, refused}
 use Rattle.rules.specs.declared.Options.{Options}
 use Rattle.wire.specs.Wire.{byteAt, pairOf}
 use Rattle.jobs.specs.declared.Job.{Job}
@@ -207,7 +207,7 @@ at-the-end (x ∷ s) h = absurd (omega arith)
 abbrev left : List ℕ → List ℕ
 left s = behind 6 2 (behind 5 2 (behind 4 8 (behind 3 8 (behind 2 16 (behind 1 1 s)))))
 
-abbrev whole : List ℕ → Answer Job
+abbrev whole : List ℕ → Result Job
 whole s1 =
     let s2 = behind 1 1 s1 in
     let s3 = behind 2 16 s2 in
@@ -232,7 +232,7 @@ pub record Encodes (s : List ℕ) (j : Job) : Type 0 where
   pub holds : Holds 0 fields s
   pub means : meansOf fields ≡ value j
 
-not-refused : (b : Bool) (a : Answer Job) (j : Job) → cond b a (refused 9) ≡ value j → b ≡ true
+not-refused : (b : Bool) (a : Result Job) (j : Job) → cond b a (refused 9) ≡ value j → b ≡ true
 not-refused true a j e = refl
 not-refused false a j e = let z : _≡_ {A = ℕ} 0 1 = cc in absurd (omega arith)
 

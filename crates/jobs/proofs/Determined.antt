@@ -2,7 +2,7 @@
 use mathlib.Core.Path.{_≡_, refl, ap}
 use mathlib.Core.Bool.{cond}
 use lib.Dec.{eqb}
-use Rattle.numbers.specs.Answers.{Answer, value, refused}
+use Rattle.numbers.specs.Results.{Result, value, refused}
 use Rattle.numbers.proofs.Determined.{determined}
 use Rattle.outcomes.proofs.Determined.{withNumber, number-back}
 use Rattle.outcomes.specs.Outcomes.{numberOf}
@@ -18,7 +18,7 @@ use Rattle.jobs.specs.declared.Opened.the-variants.{Begun, NoSearch, Unr
 use Rattle.jobs.specs.Reader.{readTold}
 use Rattle.jobs.specs.Start.{openedTold}
 
-reading : Answer Job → Reading
+reading : Result Job → Reading
 reading (value j) = Whole j
 reading (refused n) = Malformed
 
@@ -30,7 +30,7 @@ reading-back Malformed = refl
 pub read-determined : (r q : Reading) → readTold r ≡ readTold q → r ≡ q
 read-determined = determined readTold reading reading-back
 
-opening : Answer (Curve × Step) → Opened
+opening : Result (Curve × Step) → Opened
 opening (value p) = Begun (p .0) (p .1)
 opening (refused n) = cond (eqb n 9) Unreadable (NoSearch (withNumber n))
 

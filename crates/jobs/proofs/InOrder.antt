@@ -7,14 +7,14 @@ use native.Mathlib.Omega.{arith}
 use lib.Dec.{eqb}
 use lib.ListN.{length, take, drop, length-drop}
 use borrow.Author.Tests.{eq-eqb, ne-eqb}
-use Rattle.numbers.specs.Answers.{Answer, value, refused}
+use Rattle.numbers.specs.Results.{Result, value, refused}
 use Rattle.rules.specs.declared.Options.{Options}
 use Rattle.wire.specs.Wire.{byteAt}
 use Rattle.jobs.specs.declared.Job.{Job}
 use Rattle.jobs.specs.Format.{decoded}
 use Rattle.jobs.specs.Reader.{begins, found, behind, optionsAt, jobOf}
 
-either-way : (b : Bool) (a : Answer Job) → a ≡ cond b a a
+either-way : (b : Bool) (a : Result Job) → a ≡ cond b a a
 either-way true a = refl
 either-way false a = refl
 

@@ -6,7 +6,7 @@ use native.Mathlib.Omega.{arith}
 use lib.Ieee.{ofBits}
 use lib.Ieee.Scale.{finite}
 use Rattle.floats.specs.Arithmetic.{0ᶠ}
-use Rattle.numbers.specs.Answers.{value, refused, unless_refuse_else_}
+use Rattle.numbers.specs.Results.{value, refused, unless_refuse_else_}
 use Rattle.outcomes.specs.declared.Refusal.the-variants.{OutOfRange, ResultNotFinite}
 use Rattle.rules.specs.declared.Options.{Options}
 use Rattle.rules.specs.declared.Setup.{Setup}

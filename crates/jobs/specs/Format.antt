@@ -6,10 +6,10 @@ use mathlib.Core.List.{List, [], _∷_, _++_}
 use mathlib.Core.Option.{Option, some, none}
 use lib.Dec.{eqb}
 use lib.ListN.{length, drop}
-use Rattle.numbers.specs.Answers.{Answer, value, refused}
+use Rattle.numbers.specs.Results.{Result, value, refused}
 use Rattle.wire.specs.Wire.{byteAt, pairOf, floatOf}
 use Rattle.rules.specs.declared.Options.{Options}
-use Rattle.rules.specs.Parameters.{defaultsOf}
+use Rattle.rules.specs.Parameters.{defaultOptions}
 use Rattle.jobs.specs.declared.Job.{Job}
 
 -- "A job is tagged fields: one-byte tag, two-byte length, body, most significant byte first"
@@ -50,24 +50,24 @@ said says (some body) other = says body
 unfoldable pub optionsOf : Option (List ℕ) → Option (List ℕ) → Option (List ℕ) → Option (List ℕ) → Option (List ℕ) → Options
 optionsOf bounds start epsilon budget limit = record {
   params = record {
-    delta = defaultsOf .params .delta;
-    sigma = defaultsOf .params .sigma;
-    epsilon = said floatOf epsilon (defaultsOf .params .epsilon);
-    theta = defaultsOf .params .theta;
-    gamma = defaultsOf .params .gamma;
-    eta = defaultsOf .params .eta;
-    min = said floatOf bounds (defaultsOf .params .min);
-    max = said (λ body. floatOf (drop 8 body)) bounds (defaultsOf .params .max);
-    start = said floatOf start (defaultsOf .params .start);
+    delta = defaultOptions .params .delta;
+    sigma = defaultOptions .params .sigma;
+    epsilon = said floatOf epsilon (defaultOptions .params .epsilon);
+    theta = defaultOptions .params .theta;
+    gamma = defaultOptions .params .gamma;
+    eta = defaultOptions .params .eta;
+    min = said floatOf bounds (defaultOptions .params .min);
+    max = said (λ body. floatOf (drop 8 body)) bounds (defaultOptions .params .max);
+    start = said floatOf start (defaultOptions .params .start);
   };
-  budget = said pairOf budget (defaultsOf .budget);
-  limit = said pairOf limit (defaultsOf .limit);
+  budget = said pairOf budget (defaultOptions .budget);
+  limit = said pairOf limit (defaultOptions .limit);
 }
 
 -- with tag 1: "missing tag 1 is refusal 9"
-unfoldable pub decoded : Option (List ℕ) → Options → Answer Job
+unfoldable pub decoded : Option (List ℕ) → Options → Result Job
 decoded none options = refused 9
 decoded (some body) options = value (record { curve = byteAt body 0; options = options })
 
-abbrev pub meansOf : List Field → Answer Job
+abbrev pub meansOf : List Field → Result Job
 meansOf fs = decoded (bodyOf 1 fs) (optionsOf (bodyOf 2 fs) (bodyOf 3 fs) (bodyOf 4 fs) (bodyOf 5 fs) (bodyOf 6 fs))

@@ -6,7 +6,7 @@ use mathlib.Core.List.{List}
 use mathlib.Core.Option.{Option, some, none}
 use lib.Dec.{leb, eqb}
 use lib.ListN.{length, take, drop}
-use Rattle.numbers.specs.Answers.{Answer, value, refused, unless_refuse_else_}
+use Rattle.numbers.specs.Results.{Result, value, refused, unless_refuse_else_}
 use Rattle.rules.specs.declared.Options.{Options}
 use Rattle.wire.specs.Wire.{byteAt, pairOf}
 use Rattle.jobs.specs.declared.Job.{Job}
@@ -30,7 +30,7 @@ abbrev pub optionsAt : List ℕ → ℕ → ℕ → ℕ → ℕ → ℕ → Opti
 optionsAt s bounds start epsilon budget limit =
     optionsOf (found 2 16 (drop bounds s)) (found 3 8 (drop start s)) (found 4 8 (drop epsilon s)) (found 5 2 (drop budget s)) (found 6 2 (drop limit s))
 
-abbrev pub jobOf : List ℕ → Answer Job
+abbrev pub jobOf : List ℕ → Result Job
 jobOf s1 =
     let s2 = behind 1 1 s1 in
     let s3 = behind 2 16 s2 in
@@ -41,6 +41,6 @@ jobOf s1 =
     decoded (found 1 1 s1) (optionsOf (found 2 16 s2) (found 3 8 s3) (found 4 8 s4) (found 5 2 s5) (found 6 2 s6))
 
 -- what each case of the answer tells
-abbrev pub readTold : Reading → Answer Job
+abbrev pub readTold : Reading → Result Job
 readTold (Whole j) = value j
 readTold Malformed = refused 9

@@ -6,7 +6,7 @@ use lib.Dec.{leb}
 use lib.Ieee.{Float}
 use lib.Ieee.Scale.{finite}
 use Rattle.floats.specs.Arithmetic.{0ᶠ}
-use Rattle.numbers.specs.Answers.{Answer, value, refused, unless_refuse_else_}
+use Rattle.numbers.specs.Results.{Result, value, refused, unless_refuse_else_}
 use Rattle.outcomes.specs.Outcomes.{numberOf}
 use Rattle.outcomes.specs.Counters.{evaluations}
 use Rattle.outcomes.specs.declared.Outcome.the-variants.{Ask}
@@ -40,7 +40,7 @@ s0Of j = slopeOf (curveOf j) 0ᶠ
 
 -- the setup of the job's search. 2: "a supplied number is NaN or infinite"; 3: "a parameter, B, N or curve number is outside its range";
 -- 4: ".. epsilon_k or L comes out not finite"
-unfoldable pub admittedOf : Job → Answer Setup
+unfoldable pub admittedOf : Job → Result Setup
 admittedOf j =
     unless (paramsFinite (j .options .params)) refuse 2 else
     unless (hasCurve j && inRanges (j .options)) refuse 3 else
@@ -51,25 +51,25 @@ admittedOf j =
 abbrev pub firstStep : Setup → Step
 firstStep s = record { search = record { setup = s; evaluations = evaluations 0; stage = Open Low }; outcome = Ask (s .options .params .min) }
 
-abbrev pub beginsWith : Curve → Answer Setup → Answer (Curve × Step)
+abbrev pub beginsWith : Curve → Result Setup → Result (Curve × Step)
 beginsWith c (value s) = value (c, firstStep s)
 beginsWith c (refused n) = refused n
 
-abbrev pub beginsBy : Answer Job → Answer (Curve × Step)
+abbrev pub beginsBy : Result Job → Result (Curve × Step)
 beginsBy (value j) = beginsWith (curveOf j) (admittedOf j)
 beginsBy (refused n) = refused n
 
 -- the curve and the search that a job begins, for any bytes
-abbrev pub beginOf : List ℕ → Answer (Curve × Step)
+abbrev pub beginOf : List ℕ → Result (Curve × Step)
 beginOf s = beginsBy (jobOf s)
 
 -- what each case of the answer tells
-abbrev pub openedTold : Opened → Answer (Curve × Step)
+abbrev pub openedTold : Opened → Result (Curve × Step)
 openedTold (Begun c t) = value (c, t)
 openedTold (NoSearch k) = refused (numberOf k)
 openedTold Unreadable = refused 9
 
 -- what Hager-Zhang's own start comes to, over a curve
-abbrev pub startedOn : Curve → Started → Answer (Curve × Step)
+abbrev pub startedOn : Curve → Started → Result (Curve × Step)
 startedOn c (Began t) = value (c, t)
 startedOn c (NotBegan k) = refused (numberOf k)

@@ -14,7 +14,7 @@ ghost use Rattle.wire.specs.Wire.{pairOf, floatOf};
 ghost use Rattle.jobs.specs.Format.{said};
 ghost use Rattle.jobs.specs.Reader.{begins, found, behind, optionsAt, jobOf, readTold};
 ghost use Rattle.jobs.specs.Start.{startedOn, beginsBy, beginOf, openedTold};
-ghost use Rattle.numbers.specs.Answers.{value};
+ghost use Rattle.numbers.specs.Results.{value};
 ghost use Rattle.floats.specs.Arithmetic.{0ᶠ};
 ghost use Rattle.curves.specs.Curves.{valueOf, slopeOf};
 ghost use Rattle.hagerzhang.specs.Machine.{startOf};

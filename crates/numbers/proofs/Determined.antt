@@ -12,7 +12,7 @@ use Rattle.numbers.specs.declared.DotResult.{DotResult}
 use Rattle.numbers.specs.declared.DotResult.the-variants.{Value, Refused}
 use Rattle.numbers.specs.declared.PointResult.{PointResult}
 use Rattle.numbers.specs.declared.PointResult.the-variants.{Written, Untouched}
-use Rattle.numbers.specs.Answers.{Answer, value, refused}
+use Rattle.numbers.specs.Results.{Result, value, refused}
 use Rattle.numbers.specs.Told.{numberOf, dotTold, pointTold}
 
 pub determined : {A T : Type 0} (told : A → T) (read : T → A) → ((a : A) → read (told a) ≡ a) → (r q : A) → told r ≡ told q → r ≡ q
@@ -28,11 +28,11 @@ number-back Lengths = refl
 number-back SuppliedNotFinite = refl
 number-back ResultNotFinite = refl
 
-read-dot : Answer Float → DotResult
+read-dot : Result Float → DotResult
 read-dot (value v) = Value v
 read-dot (refused n) = Refused (withNumber n)
 
-read-point : Answer (List Float) → PointResult
+read-point : Result (List Float) → PointResult
 read-point (value p) = Written
 read-point (refused n) = Untouched (withNumber n)
 

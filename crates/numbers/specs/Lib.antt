@@ -1,3 +1,3 @@
-pub mod Answers
+pub mod Results
 pub mod Numbers
 pub mod Told

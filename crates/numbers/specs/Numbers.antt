@@ -8,7 +8,7 @@ use lib.Dec.{leb, eqb}
 use lib.Ieee.{Float, nan, inf, fin}
 use lib.Ieee.Scale.{finite}
 use Rattle.floats.specs.Arithmetic.{_⊕_, _⊗_, 0ᶠ}
-use Rattle.numbers.specs.Answers.{Answer, value, refused, unless_refuse_else_}
+use Rattle.numbers.specs.Results.{Result, value, refused, unless_refuse_else_}
 
 -- 01: "Absolute value clears the sign bit." A NaN stays a NaN, and -0.0 gives +0.0.
 abbrev pub absOf : Float → Float
@@ -34,7 +34,7 @@ abbrev pub leftSum : List Float → Float
 leftSum [] = 0ᶠ
 leftSum (p ∷ ps) = foldl _⊕_ p ps
 
-abbrev pub dotOf : List Float → List Float → Answer Float
+abbrev pub dotOf : List Float → List Float → Result Float
 dotOf a b =
     let s = leftSum (products a b) in
     unless (sized (length a) && eqb (length a) (length b)) refuse 1 else
@@ -51,7 +51,7 @@ abbrev pub moved : List Float → Float → List Float → List Float
 moved x0 alpha d = zipWith (movedBy alpha) x0 d
 
 -- the point, for a buffer of m elements
-abbrev pub pointOf : List Float → Float → List Float → ℕ → Answer (List Float)
+abbrev pub pointOf : List Float → Float → List Float → ℕ → Result (List Float)
 pointOf x0 alpha d m =
     unless (sized (length x0) && eqb (length x0) (length d) && eqb (length x0) m) refuse 1 else
     unless (finite alpha && allFinite x0 && allFinite d) refuse 2 else
@@ -59,6 +59,6 @@ pointOf x0 alpha d m =
     value (moved x0 alpha d)
 
 -- 01, the table: a refusal leaves "buffers untouched"
-abbrev pub heldAfter : Answer (List Float) → List Float → List Float
+abbrev pub heldAfter : Result (List Float) → List Float → List Float
 heldAfter (value p) held = p
 heldAfter (refused n) held = held

@@ -8,18 +8,18 @@ use Rattle.numbers.specs.declared.DotResult.{DotResult}
 use Rattle.numbers.specs.declared.DotResult.the-variants.{Value, Refused}
 use Rattle.numbers.specs.declared.PointResult.{PointResult}
 use Rattle.numbers.specs.declared.PointResult.the-variants.{Written, Untouched}
-use Rattle.numbers.specs.Answers.{Answer, value, refused}
+use Rattle.numbers.specs.Results.{Result, value, refused}
 
 abbrev pub numberOf : Refusal → ℕ
 numberOf Lengths = 1
 numberOf SuppliedNotFinite = 2
 numberOf ResultNotFinite = 4
 
-abbrev pub dotTold : DotResult → Answer Float
+abbrev pub dotTold : DotResult → Result Float
 dotTold (Value v) = value v
 dotTold (Refused k) = refused (numberOf k)
 
 -- `Written` tells of what the buffer holds now
-abbrev pub pointTold : PointResult → List Float → Answer (List Float)
+abbrev pub pointTold : PointResult → List Float → Result (List Float)
 pointTold Written held = value held
 pointTold (Untouched k) held = refused (numberOf k)

@@ -10,7 +10,7 @@ use lib.ListN.{length}
 use lib.Ieee.{Float}
 use Rattle.outcomes.proofs.Machines.{none-more}
 use Rattle.outcomes.specs.Outcomes.{refusal}
-use Rattle.outcomes.specs.Asking.{ask, end, Search, Over, over, leaving, question, Reply, respond, reported, isOver, after, accepted, notFinite}
+use Rattle.outcomes.specs.Asking.{ask, end, Search, Over, over, keeping, question, Reply, respond, reported, isOver, after, accepted, notFinite}
 
 pub data Ends {K : Type 0} (finite : Float → Float → Bool) : ℕ → Search K → Type 0 where
   at-end : {n : ℕ} {o : Over K} → Ends finite n (end o)
@@ -37,7 +37,7 @@ module _ {K : Type 0} {finite : Float → Float → Bool} where
   ends-if true h k = h
   ends-if false h k = k
 
-  pub question-ends : {n : ℕ} (k : K) (x : Float) (then : Float → Float → Search K) → ((f g : Float) → Ends finite n (then f g)) → Ends finite (suc n) (question finite (leaving k) k x then)
+  pub question-ends : {n : ℕ} (k : K) (x : Float) (then : Float → Float → Search K) → ((f g : Float) → Ends finite n (then f g)) → Ends finite (suc n) (question finite (keeping k) k x then)
   question-ends k x then e = at-ask {k = k} {then = λ f g. cond (finite f g) (then f g) (over k (refusal 2))} (λ f g u. rw u) (λ f g. ends-if (finite f g) (e f g) at-end)
 
   pub ends-over : {n : ℕ} {r : Search K} → Ends finite n r → (ys : List Reply) → n ≤ length ys → isOver (after r ys) ≡ true

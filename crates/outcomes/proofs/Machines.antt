@@ -10,37 +10,37 @@ use lib.Ieee.{Float}
 use borrow.Author.Tests.{lt-ltb}
 use Rattle.outcomes.specs.Outcomes.{Told}
 use Rattle.outcomes.specs.Counters.{counted}
-use Rattle.outcomes.specs.Asking.{Run, ask, end, Search, Over, Reply, respond, shown, reported, isOver, rest, outcomes, after, accepted, reached, played}
+use Rattle.outcomes.specs.Asking.{Run, ask, end, Search, Over, Reply, respond, shown, reported, isOver, onceTold, outcomes, after, accepted, reached, played}
 
 module _ {K : Type 0} where
-  responds : (r : Search K) (f g : Float) → respond (rest r) f g ≡ respond r f g
-  unfolding respond rest
+  responds : (r : Search K) (f g : Float) → respond (onceTold r) f g ≡ respond r f g
+  unfolding respond onceTold
   responds (ask k x then) f g = refl
   responds (end o) f g = refl
 
-  same-outcomes : (r : Search K) (ys : List Reply) → outcomes (rest r) ys ≡ outcomes r ys
+  same-outcomes : (r : Search K) (ys : List Reply) → outcomes (onceTold r) ys ≡ outcomes r ys
   unfolding outcomes
   same-outcomes r [] = refl
   same-outcomes r (y ∷ ys) = ap (λ (q : Search K). shown q ∷ outcomes q ys) (responds r (y .0) (y .1))
 
   -- anything that does not tell an ended search from one that has told so
-  same-after : {A : Type 0} (h : Search K → A) → ((r : Search K) → h (rest r) ≡ h r) → (r : Search K) (ys : List Reply) → h (after (rest r) ys) ≡ h (after r ys)
+  same-after : {A : Type 0} (h : Search K → A) → ((r : Search K) → h (onceTold r) ≡ h r) → (r : Search K) (ys : List Reply) → h (after (onceTold r) ys) ≡ h (after r ys)
   unfolding after
   same-after h e r [] = e r
   same-after h e r (y ∷ ys) = ap (λ (q : Search K). h (after q ys)) (responds r (y .0) (y .1))
 
-  pub report-rests : (r : Search K) → reported (rest r) ≡ reported r
-  unfolding reported rest
+  pub report-rests : (r : Search K) → reported (onceTold r) ≡ reported r
+  unfolding reported onceTold
   report-rests (ask k x then) = refl
   report-rests (end o) = refl
 
-  pub over-rests : (r : Search K) → isOver (rest r) ≡ isOver r
-  unfolding isOver rest
+  pub over-rests : (r : Search K) → isOver (onceTold r) ≡ isOver r
+  unfolding isOver onceTold
   over-rests (ask k x then) = refl
   over-rests (end o) = refl
 
-  same-accepted : (finite : Float → Float → Bool) (r : Search K) (ys : List Reply) → accepted finite (rest r) ys ≡ accepted finite r ys
-  unfolding accepted rest
+  same-accepted : (finite : Float → Float → Bool) (r : Search K) (ys : List Reply) → accepted finite (onceTold r) ys ≡ accepted finite r ys
+  unfolding accepted onceTold
   same-accepted finite (ask k x then) ys = refl
   same-accepted finite (end o) [] = refl
   same-accepted finite (end o) (y ∷ ys) = refl
@@ -51,7 +51,7 @@ Seen K = Search K × Told
 
 module _ {K : Type 0} where
   unfoldable pub seen : Search K → Seen K
-  seen r = (rest r, shown r)
+  seen r = (onceTold r, shown r)
 
   -- a choice means the choice of what each means
   pub picks : {A : Type 0} (d : A → Seen K) (b : Bool) (x y : A) (m n : Search K) → d x ≡ seen m → d y ≡ seen n → d (cond b x y) ≡ seen (cond b m n)
@@ -82,7 +82,7 @@ none-more o finite (y ∷ ys) = refl
 -- `Fit` is what a state has to meet for its steps to be the rules', and what its steps keep
 module _ {S K : Type 0} (meant : S → Search K) (next : S → Float → Float → S) (says : S → Float → Float → Told) (Fit : S → Type 0)
     (fit-next : (s : S) → Fit s → (f g : Float) → Fit (next s f g))
-    (leaves : (s : S) → Fit s → (f g : Float) → meant (next s f g) ≡ rest (respond (meant s) f g))
+    (leaves : (s : S) → Fit s → (f g : Float) → meant (next s f g) ≡ onceTold (respond (meant s) f g))
     (tells : (s : S) → Fit s → (f g : Float) → says s f g ≡ shown (respond (meant s) f g)) where
   pub plays : (s : S) → Fit s → (ys : List Reply) → played next says s ys ≡ outcomes (meant s) ys
   unfolding played outcomes
@@ -91,7 +91,7 @@ module _ {S K : Type 0} (meant : S → Search K) (next : S → Float → Float �
       ap₂ _∷_ (tells s v (y .0) (y .1))
       (plays (next s (y .0) (y .1)) (fit-next s v (y .0) (y .1)) ys ∙ ap (λ (r : Search K). outcomes r ys) (leaves s v (y .0) (y .1)) ∙ same-outcomes (respond (meant s) (y .0) (y .1)) ys)
 
-  pub reaches : {A : Type 0} (h : Search K → A) → ((r : Search K) → h (rest r) ≡ h r) → (s : S) → Fit s → (ys : List Reply)
+  pub reaches : {A : Type 0} (h : Search K → A) → ((r : Search K) → h (onceTold r) ≡ h r) → (s : S) → Fit s → (ys : List Reply)
       → h (meant (reached next s ys)) ≡ h (after (meant s) ys)
   unfolding reached after
   reaches h e s v [] = refl

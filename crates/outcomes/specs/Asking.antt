@@ -4,7 +4,7 @@ use Prim.Native.Nat.{ℕ, _+_}
 use mathlib.Core.Bool.{Bool, true, false, cond, not}
 use mathlib.Core.List.{List, [], _∷_}
 use lib.Ieee.{Float}
-use Rattle.numbers.specs.Answers.{Answer, value, refused}
+use Rattle.numbers.specs.Results.{Result, value, refused}
 use Rattle.outcomes.specs.Outcomes.{Ending, refusal, Told, asks, ends}
 
 -- K is what is reported while an answer is awaited, R what the run comes to
@@ -23,9 +23,9 @@ Search K = Run K (Over K)
 abbrev pub over : {K : Type 0} → K → Ending → Search K
 over k e = end (record { keeps = k; by = e })
 
--- a refusal that leaves what is reported as it was
-abbrev pub leaving : {K : Type 0} → K → ℕ → Over K
-leaving k n = record { keeps = k; by = refusal n }
+-- over by refusal n, keeping what was reported
+abbrev pub keeping : {K : Type 0} → K → ℕ → Over K
+keeping k n = record { keeps = k; by = refusal n }
 
 -- an answer: cost and slope
 abbrev pub Reply : Type 0
@@ -51,12 +51,12 @@ module _ {K : Type 0} where
   isOver (end o) = true
 
   -- what is left of a search once it has told its outcome: where it ended, it refuses whatever is said to it (8). A state of the machine stands for this
-  unfoldable pub rest : Search K → Search K
-  rest (ask k x then) = ask k x then
-  rest (end o) = over (o .keeps) (refusal 8)
+  unfoldable pub onceTold : Search K → Search K
+  onceTold (ask k x then) = ask k x then
+  onceTold (end o) = over (o .keeps) (refusal 8)
 
   -- what a start tells: the first step, or the refusal
-  abbrev pub firstOf : Answer (Search K) → Told
+  abbrev pub firstOf : Result (Search K) → Told
   firstOf (value r) = shown r
   firstOf (refused n) = ends (refusal n)
 

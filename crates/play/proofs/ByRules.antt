@@ -9,7 +9,7 @@ use lib.ListN.{length}
 use lib.Ieee.{Float}
 use borrow.Author.Tests.{lt-ltb}
 use Rattle.outcomes.specs.Outcomes.{asks, ends, told}
-use Rattle.outcomes.specs.Asking.{Search as Run, Over as Ended, ask, end, respond, shown, reported, rest}
+use Rattle.outcomes.specs.Asking.{Search as Run, Over as Ended, ask, end, respond, shown, reported, onceTold}
 use Rattle.outcomes.specs.Counters.{counted}
 use Rattle.outcomes.proofs.Branches.{either, by-test}
 use Rattle.outcomes.proofs.Ends.{Ends, at-ask}
@@ -71,7 +71,7 @@ module _ (s : Setup) (fits : s .options .limit < 4294967296) (c : Curve) where
   pub record Stands (e m : ℕ) (t : Step) (r : Run Report) : Type 0 where
     pub same-setup : t .search .setup ≡ s
     pub tells : told (t .outcome) ≡ shown r
-    pub leaves : meant (t .search) ≡ rest r
+    pub leaves : meant (t .search) ≡ onceTold r
     pub counts : t .search .evaluations .0 ≡ e
     pub within : Ends answerFinite m r
     pub few : e + m < 4294967295
@@ -102,7 +102,7 @@ module _ (s : Setup) (fits : s .options .limit < 4294967296) (c : Curve) where
       t' = answerOf (t .search) f g
 
       is-run : meant (t .search) ≡ ask k x then
-      unfolding rest
+      unfolding onceTold
       is-run = at .leaves
 
       asked : t .outcome ≡ Ask x
@@ -131,7 +131,7 @@ module _ (s : Setup) (fits : s .options .limit < 4294967296) (c : Curve) where
           record {
             same-setup = setup-kept (t .search) f g (t .search .stage) ∙ at .same-setup;
             tells = z .tells ∙ ap shown responds;
-            leaves = z .leaves ∙ ap rest responds;
+            leaves = z .leaves ∙ ap onceTold responds;
             counts = counts-on (t .search) f g (t .search .stage) k x then is-run (omega arith) ∙ ap (λ (i : ℕ). i + cond (answerFinite f g) 1 0) n;
             within = more f g;
             few = at-most-one (answerFinite f g);
@@ -166,8 +166,8 @@ module _ (s : Setup) (fits : s .options .limit < 4294967296) (c : Curve) where
       is-told = at .tells
 
       keeps-report : iterationsIn (report (t .search)) ≡ iterationsIn (o .keeps)
-      unfolding rest reported
-      keeps-report = reported-by (t .search) (rest (end o)) (at .leaves)
+      unfolding onceTold reported
+      keeps-report = reported-by (t .search) (onceTold (end o)) (at .leaves)
 
       ends-so : record { told = ends (o .by); evaluations = e; iterations = iterationsIn (o .keeps) } ≡ saidOf t
       ends-so = rw (is-told, at .counts, keeps-report)

@@ -4,8 +4,8 @@ use mathlib.Core.List.{List, []}
 use Prim.Native.Nat.{ℕ, zero, suc, _+_, _<_}
 use native.Mathlib.Omega.{arith}
 use lib.ListN.{length, length-append}
-use Rattle.numbers.specs.Answers.{value}
-use Rattle.outcomes.specs.Asking.{Search as Run, ask, end, rest}
+use Rattle.numbers.specs.Results.{value}
+use Rattle.outcomes.specs.Asking.{Search as Run, ask, end, onceTold}
 use Rattle.rules.specs.declared.Setup.{Setup}
 use Rattle.rules.specs.Rules.{Report, search}
 use Rattle.curves.specs.declared.Curve.{Curve}
@@ -37,9 +37,9 @@ unfolding telling
 same-count c e d (end o) = refl
 same-count c e d (ask k x then) = ap suc (same-count c _ _ (then _ _))
 
-rest-count : (c : Curve) (e : ℕ) (r : Run Report) → length (telling c 0 (rest r)) ≡ length (telling c e r)
-rest-count c e (end o) = unfold rest telling in refl
-rest-count c e (ask k x then) = unfold rest in same-count c 0 e (ask k x then)
+rest-count : (c : Curve) (e : ℕ) (r : Run Report) → length (telling c 0 (onceTold r)) ≡ length (telling c e r)
+rest-count c e (end o) = unfold onceTold telling in refl
+rest-count c e (ask k x then) = unfold onceTold in same-count c 0 e (ask k x then)
 
 counted : (s : Setup) (fits : s .options .limit < 4294967296) (c : Curve) (p : Played) (l : List Said) → Matches s fits c p l → toTell c p ≡ length l
 unfolding toTell

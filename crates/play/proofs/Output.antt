@@ -10,13 +10,13 @@ use lib.Dec.{leb}
 use lib.ListN.{length}
 use lib.Ieee.Scale.{finite}
 use borrow.Author.Tests.{leb-true}
-use Rattle.numbers.specs.Answers.{Answer, value, refused, unless_refuse_else_}
-use Rattle.outcomes.specs.Asking.{Search as Run, ask, end, shown, rest}
+use Rattle.numbers.specs.Results.{Result, value, refused, unless_refuse_else_}
+use Rattle.outcomes.specs.Asking.{Search as Run, ask, end, shown, onceTold}
 use Rattle.outcomes.proofs.Branches.{and-first, and-second}
 use Rattle.outcomes.proofs.Ends.{Ends, at-end, at-ask}
 use Rattle.rules.specs.declared.Options.{Options}
 use Rattle.rules.specs.declared.Setup.{Setup}
-use Rattle.rules.specs.Parameters.{paramsFinite, wolfeInRange, factorsInRange, boundsInRange, countsInRange, inRanges, epsilonK, levelOf, setupOf}
+use Rattle.rules.specs.Parameters.{paramsFinite, deltaSigmaInRange, factorsInRange, boundsInRange, countsInRange, inRanges, epsilonK, levelOf, setupOf}
 use Rattle.rules.specs.Rules.{answerFinite, Report, search}
 use Rattle.rules.proofs.Bounds.{search-within}
 use Rattle.curves.specs.declared.Curve.{Curve}
@@ -42,7 +42,7 @@ in-range o h =
     let n = o .limit in
     let m = o .budget in
     let counts : (leb 1 m && leb m 1000 && (leb 1 n && leb n 10000)) ≡ true =
-    and-second (wolfeInRange (o .params) && factorsInRange (o .params) && boundsInRange (o .params)) (countsInRange o) h in
+    and-second (deltaSigmaInRange (o .params) && factorsInRange (o .params) && boundsInRange (o .params)) (countsInRange o) h in
     record {
       limit = leb-true n 10000 (and-second (leb 1 n) (leb n 10000) (and-second (leb 1 m && leb m 1000) (leb 1 n && leb n 10000) counts));
       budget = leb-true m 1000 (and-second (leb 1 m) (leb m 1000) (and-first (leb 1 m && leb m 1000) (leb 1 n && leb n 10000) counts));
@@ -84,7 +84,7 @@ module _ (j : Job) (s : Setup) (e : admittedOf j ≡ value s) where
   stands-first c = record {
     same-setup = refl;
     tells = unfold shown search in refl;
-    leaves = unfold rest search in starts-whole s;
+    leaves = unfold onceTold search in starts-whole s;
     counts = refl;
     within = search-within s;
     few = let m = at-most in omega arith;
@@ -100,7 +100,7 @@ pub record Plays (s : List ℕ) (c : Curve) (t : Step) : Type 0 where
   pub matches : Matches setup (limit-fits job setup is-admitted) c (On t) (telling c 0 (search setup))
 
 module _ (s : List ℕ) (c : Curve) (t : Step) where
-  with-setup : (j : Job) → jobOf s ≡ value j → (a : Answer Setup) → admittedOf j ≡ a → beginsWith (curveOf j) a ≡ value (c, t) → Plays s c t
+  with-setup : (j : Job) → jobOf s ≡ value j → (a : Result Setup) → admittedOf j ≡ a → beginsWith (curveOf j) a ≡ value (c, t) → Plays s c t
   with-setup j is (value q) e h =
       let pair : _≡_ {A = Curve × Step} (curveOf j, firstStep q) (c, t) = cc in
       record {
@@ -113,7 +113,7 @@ module _ (s : List ℕ) (c : Curve) (t : Step) where
       }
   with-setup j is (refused n) e h = let o : _≡_ {A = ℕ} 0 1 = cc in absurd (omega arith)
 
-  with-job : (a : Answer Job) → jobOf s ≡ a → beginsBy a ≡ value (c, t) → Plays s c t
+  with-job : (a : Result Job) → jobOf s ≡ a → beginsBy a ≡ value (c, t) → Plays s c t
   with-job (value j) e h = with-setup j e (admittedOf j) refl h
   with-job (refused n) e h = let o : _≡_ {A = ℕ} 0 1 = cc in absurd (omega arith)
 
@@ -127,11 +127,11 @@ module _ (s : List ℕ) (c : Curve) (t : Step) where
       ∙ sym (rw (p .is-job, p .is-admitted, p .same-curve))
 
 -- ---- one that does not
-refused-setup : (c : Curve) (a : Answer Setup) (n : ℕ) → beginsWith c a ≡ refused n → searchText c a ≡ refusedLine n
+refused-setup : (c : Curve) (a : Result Setup) (n : ℕ) → beginsWith c a ≡ refused n → searchText c a ≡ refusedLine n
 refused-setup c (value s) n h = let o : _≡_ {A = ℕ} 0 1 = cc in absurd (omega arith)
 refused-setup c (refused m) n h = let e : m ≡ n = cc in ap refusedLine e
 
-refused-job : (a : Answer Job) (n : ℕ) → beginsBy a ≡ refused n → jobText a ≡ refusedLine n
+refused-job : (a : Result Job) (n : ℕ) → beginsBy a ≡ refused n → jobText a ≡ refusedLine n
 refused-job (value j) n h = refused-setup (curveOf j) (admittedOf j) n h
 refused-job (refused m) n h = let e : m ≡ n = cc in ap refusedLine e
 

@@ -2,7 +2,7 @@
 -- format), 01's order of refusals, 01's rules and 01's lines alone.
 use Prim.Native.Nat.{ℕ}
 use mathlib.Core.List.{List}
-use Rattle.numbers.specs.Answers.{Answer, value, refused}
+use Rattle.numbers.specs.Results.{Result, value, refused}
 use Rattle.rules.specs.declared.Setup.{Setup}
 use Rattle.rules.specs.Rules.{search}
 use Rattle.curves.specs.declared.Curve.{Curve}
@@ -13,11 +13,11 @@ use Rattle.jobs.specs.Start.{curveOf, admittedOf}
 use Rattle.play.specs.Telling.{telling, textOf}
 
 -- a search over a curve, or "`REFUSED n` alone"
-abbrev pub searchText : Curve → Answer Setup → List ℕ
+abbrev pub searchText : Curve → Result Setup → List ℕ
 searchText c (value s) = textOf (telling c 0 (search s))
 searchText c (refused n) = refusedLine n
 
-abbrev pub jobText : Answer Job → List ℕ
+abbrev pub jobText : Result Job → List ℕ
 jobText (value j) = searchText (curveOf j) (admittedOf j)
 jobText (refused n) = refusedLine n
 

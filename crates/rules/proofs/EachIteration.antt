@@ -10,7 +10,7 @@ use lib.Ieee.{Float}
 use lib.Ieee.Scale.{finite}
 use Rattle.floats.specs.Arithmetic.{_<ᶠ_}
 use Rattle.outcomes.specs.Outcomes.{refusal}
-use Rattle.outcomes.specs.Asking.{Run, ask, end, Search, over, leaving, reported}
+use Rattle.outcomes.specs.Asking.{Run, ask, end, Search, over, keeping, reported}
 use Rattle.outcomes.proofs.Branches.{and-first, and-second}
 use Rattle.rules.specs.declared.Point.{Point}
 use Rattle.rules.specs.declared.Bracket.{Bracket}
@@ -59,7 +59,7 @@ module _ (P : Last → List Point → Last → Type 0) (s : Setup) (n : ℕ) (k 
 
   asking-arrives : (asked : List Point) (x : Float) (then : Point → Search Report) (then' : Point → Alone) → length asked < 3 + 3 * B → There asked (asking s inl k x then')
       → ((f g : Float) → finite f ≡ true → finite g ≡ true → There (point x f g ∷ asked) (then' (point x f g)) → Here (point x f g ∷ asked) (then (point x f g)))
-      → Here asked (asking s (leaving k) k x then)
+      → Here asked (asking s (keeping k) k x then)
   asking-arrives asked x then then' room at go =
       goes-on {k = k} {then = λ f g. cond (answerFinite f g) (then (point x f g)) (over k (refusal 2))} room (λ f g u. rw u)
       (λ f g. if-arrives (answerFinite f g)
@@ -69,7 +69,7 @@ module _ (P : Last → List Point → Last → Type 0) (s : Setup) (n : ℕ) (k 
 
   trial-arrives : (asked : List Point) (x : Float) (then : Point → Search Report) (then' : Point → Alone) → length asked < 3 + 3 * B → There asked (trial s inl k x then')
       → (finite x ≡ true → (f g : Float) → finite f ≡ true → finite g ≡ true → There (point x f g ∷ asked) (then' (point x f g)) → Here (point x f g ∷ asked) (then (point x f g)))
-      → Here asked (trial s (leaving k) k x then)
+      → Here asked (trial s (keeping k) k x then)
   unfolding trial
   trial-arrives asked x then then' room at go =
       if-arrives (finite x)
@@ -79,7 +79,7 @@ module _ (P : Last → List Point → Last → Type 0) (s : Setup) (n : ℕ) (k 
   U3-arrives : (m : ℕ) (asked : List Point) (came : Came) (then : Bracket → Search Report) (then' : Bracket → Alone) → length asked + m ≤ 3 + 3 * B
       → There asked (U3 s inl k m came then') → SoundCame (s .level) w asked came
       → ((more : List Point) (v : Bracket) → length more ≤ length asked + m → There more (then' v) → Sound (s .level) w more v → Here more (then v))
-      → Here asked (U3 s (leaving k) k m came then)
+      → Here asked (U3 s (keeping k) k m came then)
   unfolding U3 between
   U3-arrives zero asked (To v) then then' room at (is-to i) go = go asked v (omega arith) at i
   U3-arrives zero asked (On h k') then then' room at (is-on i) go = ended
@@ -89,7 +89,7 @@ module _ (P : Last → List Point → Last → Type 0) (s : Setup) (n : ℕ) (k 
       let on : Point → Alone = λ d. U3 s inl k m (narrowedOf (s .level) h k' d) then' in
       if-arrives (finite x)
       (λ fx. if-arrives (h .x <ᶠ x && x <ᶠ k')
-      (λ inside. asking-arrives asked x (λ d. U3 s (leaving k) k m (narrowedOf (s .level) h k' d) then) on (omega arith)
+      (λ inside. asking-arrives asked x (λ d. U3 s (keeping k) k m (narrowedOf (s .level) h k' d) then) on (omega arith)
       (subst (λ (t : Bool). There asked (cond t (asking s inl k x on) (end (inl 7)))) inside
       (subst (λ (t : Bool). There asked (cond t (cond (h .x <ᶠ x && x <ᶠ k') (asking s inl k x on) (end (inl 7))) (end (inl 5)))) fx at))
       (λ f g ff fg at'.
@@ -103,17 +103,17 @@ module _ (P : Last → List Point → Last → Type 0) (s : Setup) (n : ℕ) (k 
   further-arrives : (asked : List Point) (e : Further) (u : Bracket) (then : Bracket → Search Report) (then' : Bracket → Alone) → length asked + suc B ≤ 3 + 3 * B
       → There asked (further s inl k e u then') → Sound (s .level) w asked u
       → ((more : List Point) (v : Bracket) → length more ≤ length asked + suc B → There more (then' v) → Sound (s .level) w more v → Here more (then v))
-      → Here asked (further s (leaving k) k e u then)
+      → Here asked (further s (keeping k) k e u then)
   unfolding further
   further-arrives asked Nothing u then then' room at m go = go asked u (omega arith) at m
   further-arrives asked (At x) u then then' room at m go =
-      trial-arrives asked x (λ c. update s (leaving k) k u c then) (λ c. update s inl k u c then') (omega arith) at (λ fx f g ff fg at'.
+      trial-arrives asked x (λ c. update s (keeping k) k u c then) (λ c. update s inl k u c then') (omega arith) at (λ fx f g ff fg at'.
       U3-arrives B (point x f g ∷ asked) (updatedOf (s .level) u (point x f g)) then then' (omega arith) at' (updated-sound (s .level) w asked u (point x f g) m fx fg)
       (λ more v few at'' m'. go more v (omega arith) at'' m'))
 
   pub iteration-arrives : (then : Bracket → Search Report)
       → ((more : List Point) (v : Bracket) → length more ≤ 3 + 3 * B → There more (end (inr v)) → Sound (s .level) w more v → Here more (then v))
-      → Here [] (iteration s (leaving k) k w then)
+      → Here [] (iteration s (keeping k) k w then)
   unfolding iteration afterS1 afterS4
   iteration-arrives then go =
       let L2' : Bracket → Alone = λ v. further s inl k (L2 (s .options .params .gamma) w v) v (λ z. end (inr z)) in
@@ -137,11 +137,11 @@ module _ (s : Setup) where
   decided-reports k x go (Holds v) e = refl
   decided-reports k x go Fails e = e
 
-  trial-reports : (k : Report) (x : Float) (then : Point → Search Report) → reported (trial s (leaving k) k x then) ≡ k
+  trial-reports : (k : Report) (x : Float) (then : Point → Search Report) → reported (trial s (keeping k) k x then) ≡ k
   unfolding trial reported
   trial-reports k x then = pick (finite x)
     where
-      pick : (b : Bool) → reported (cond b (asking s (leaving k) k x then) (over k (refusal 5))) ≡ k
+      pick : (b : Bool) → reported (cond b (asking s (keeping k) k x then) (over k (refusal 5))) ≡ k
       pick true = refl
       pick false = refl
 

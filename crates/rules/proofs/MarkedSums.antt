@@ -7,7 +7,7 @@ use mathlib.Core.List.{List, [], _∷_}
 use Prim.Native.Nat.{ℕ}
 use lib.Ieee.{Float, nan, add, sub, mul, div, neg, le, lt, eq, ofBits, ofInt}
 use Rattle.floats.specs.Numerals.{whole, quarters, minus}
-use Rattle.numbers.specs.Answers.{value}
+use Rattle.numbers.specs.Results.{value}
 use Rattle.outcomes.specs.Asking.{Run, ask, end, Reply}
 use Rattle.conditions.proofs.MarkedSums as conditions
 use Rattle.rules.specs.declared.Point.{Point}
@@ -16,22 +16,22 @@ use Rattle.rules.specs.declared.Options.{Options}
 use Rattle.rules.specs.declared.Setup.{Setup}
 use Rattle.rules.specs.declared.Further.the-variants.{Nothing, At}
 use Rattle.rules.specs.declared.Came.the-variants.{To}
-use Rattle.rules.specs.Parameters.{defaultsOf, admitted}
+use Rattle.rules.specs.Parameters.{defaultOptions, admitted}
 use Rattle.rules.specs.Rules.{point, bracket, answerFinite, secantOf, updatedOf, narrowedOf, S2, S3, L2, bestOver, bestOf, trial, between, U3, update, further, afterS4, afterS1, iteration}
 
 -- "epsilon = 0, L = 1, theta = 0.5, a = (0,1,-2), b = (4,9,6) unless said." The start has cost 1 and slope -2; B is the budget.
 abbrev options : ℕ → Options
 options B = record {
   params = record {
-    delta = defaultsOf .params .delta;
-    sigma = defaultsOf .params .sigma;
+    delta = defaultOptions .params .delta;
+    sigma = defaultOptions .params .sigma;
     epsilon = whole 0;
-    theta = defaultsOf .params .theta;
-    gamma = defaultsOf .params .gamma;
-    eta = defaultsOf .params .eta;
-    min = defaultsOf .params .min;
-    max = defaultsOf .params .max;
-    start = defaultsOf .params .start;
+    theta = defaultOptions .params .theta;
+    gamma = defaultOptions .params .gamma;
+    eta = defaultOptions .params .eta;
+    min = defaultOptions .params .min;
+    max = defaultOptions .params .max;
+    start = defaultOptions .params .start;
   };
   budget = B;
   limit = 100;

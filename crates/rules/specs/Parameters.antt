@@ -5,15 +5,15 @@ use lib.Dec.{leb}
 use lib.Ieee.{Float, binary64, ofBits}
 use lib.Ieee.Scale.{finite}
 use Rattle.floats.specs.Arithmetic.{_⊕_, _⊗_, _<ᶠ_, _≤ᶠ_, 0ᶠ, ½ᶠ, 1ᶠ}
-use Rattle.numbers.specs.Answers.{Answer, value, refused, unless_refuse_else_}
+use Rattle.numbers.specs.Results.{Result, value, refused, unless_refuse_else_}
 use Rattle.numbers.specs.Numbers.{absOf}
 use Rattle.rules.specs.declared.Params.{Params}
 use Rattle.rules.specs.declared.Options.{Options}
 use Rattle.rules.specs.declared.Setup.{Setup}
 
--- "delta 0.1, sigma 0.9 .. epsilon 1e-6 .. theta 0.5, gamma 0.66 .. eta 0.01 .. Bounds 2^-52 and 1e5 .. Start step c: 1"; B and N default 100
-abbrev pub defaultsOf : Options
-defaultsOf = record {
+-- "delta 0.1, sigma 0.9 .. epsilon 1e-6 .. theta 0.5, gamma 0.66 .. eta 0.01 .. Bounds 2^-52 and 1e5 .. Start step c: 1"; the budget B and the limit N are 100
+abbrev pub defaultOptions : Options
+defaultOptions = record {
   params = record {
     delta = ofBits binary64 0x3fb9_9999_9999_999a;
     sigma = ofBits binary64 0x3fec_cccc_cccc_cccd;
@@ -49,8 +49,8 @@ suppliedFinite o f0 s0 = paramsFinite (o .params) && finite f0 && finite s0
 -- ---- refusal 3: "a parameter, B, N .. is outside its range"
 
 -- "0 < delta < 1, delta <= sigma < 1"
-abbrev pub wolfeInRange : Params → Bool
-wolfeInRange p = 0ᶠ <ᶠ p .delta && p .delta <ᶠ 1ᶠ && p .delta ≤ᶠ p .sigma && p .sigma <ᶠ 1ᶠ
+abbrev pub deltaSigmaInRange : Params → Bool
+deltaSigmaInRange p = 0ᶠ <ᶠ p .delta && p .delta <ᶠ 1ᶠ && p .delta ≤ᶠ p .sigma && p .sigma <ᶠ 1ᶠ
 
 -- "epsilon: >= 0. theta, gamma: in (0, 1). eta: > 0"
 abbrev pub factorsInRange : Params → Bool
@@ -66,7 +66,7 @@ abbrev pub countsInRange : Options → Bool
 countsInRange o = leb 1 (o .budget) && leb (o .budget) 1000 && (leb 1 (o .limit) && leb (o .limit) 10000)
 
 abbrev pub inRanges : Options → Bool
-inRanges o = wolfeInRange (o .params) && factorsInRange (o .params) && boundsInRange (o .params) && countsInRange o
+inRanges o = deltaSigmaInRange (o .params) && factorsInRange (o .params) && boundsInRange (o .params) && countsInRange o
 
 -- ---- 01, "Hager-Zhang rules": "epsilon_k = epsilon*|f0|, L = f0 + epsilon_k"
 
@@ -80,7 +80,7 @@ abbrev pub setupOf : Options → Float → Float → Setup
 setupOf o f0 s0 = record { options = o; f0 = f0; s0 = s0; level = levelOf o f0 }
 
 -- the setup of the search that starts, or the first refusal that applies
-abbrev pub admitted : Options → Float → Float → Answer Setup
+abbrev pub admitted : Options → Float → Float → Result Setup
 admitted o f0 s0 =
     unless (suppliedFinite o f0 s0) refuse 2 else
     unless (inRanges o) refuse 3 else

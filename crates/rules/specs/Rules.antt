@@ -9,7 +9,7 @@ use lib.Ieee.Scale.{finite}
 use Rattle.floats.specs.Arithmetic.{_⊕_, _⊖_, _⊗_, _⊘_, _<ᶠ_, _≤ᶠ_, _>ᶠ_, _≥ᶠ_, 0ᶠ, 1ᶠ, 2ᶠ}
 use Rattle.numbers.specs.Numbers.{absOf}
 use Rattle.outcomes.specs.Outcomes.{verdictWord, stop, limit}
-use Rattle.outcomes.specs.Asking.{Run, end, Search, over, leaving, question}
+use Rattle.outcomes.specs.Asking.{Run, end, Search, over, keeping, question}
 use Rattle.outcomes.specs.declared.Verdict.{Verdict}
 use Rattle.outcomes.specs.declared.Verdict.the-variants.{Wolfe, Approximate}
 use Rattle.rules.specs.declared.Point.{Point}
@@ -61,7 +61,7 @@ narrowedOf L h k d =
 abbrev pub secantOf : Point → Point → Float
 secantOf p q = (p .x ⊗ q .g ⊖ q .x ⊗ p .g) ⊘ (q .g ⊖ p .g)
 
--- ---- "Iteration on (a, b)": w is (a, b), u is (A, Z), c is the step of S1
+-- ---- "Iteration on (a, b)": w is (a, b), u is (A, Z), cx is c.x, the step of S1
 
 abbrev pub near : Float → Float → Bool
 near x y = absOf (x ⊖ y) <ᶠ EPS
@@ -76,15 +76,15 @@ orElse Nothing d = d
 
 -- "S2: if |c.x - Z.x| < EPS, e = secant(b, Z)."
 unfoldable pub S2 : Bracket → Float → Bracket → Further
-S2 w c u = when (near c (u .b .x)) (secantOf (w .b) (u .b))
+S2 w cx u = when (near cx (u .b .x)) (secantOf (w .b) (u .b))
 
 -- "S3: if |c.x - A.x| < EPS, e = secant(a, A), overwriting S2's."
 unfoldable pub S3 : Bracket → Float → Bracket → Further
-S3 w c u = when (near c (u .a .x)) (secantOf (w .a) (u .a))
+S3 w cx u = when (near cx (u .a .x)) (secantOf (w .a) (u .a))
 
 -- "S4: if either held, ask e and update (A, Z) with it." "In S2 and S3 only the final e is tested for refusal 5."
 abbrev pub S4 : Bracket → Float → Bracket → Further
-S4 w c u = orElse (S3 w c u) (S2 w c u)
+S4 w cx u = orElse (S3 w cx u) (S2 w cx u)
 
 -- "L2: if Z.x - A.x > gamma*(b.x - a.x), ask (A.x + Z.x)/2 and update."
 unfoldable pub L2 : Float → Bracket → Bracket → Further
@@ -117,11 +117,11 @@ approximateHolds s p =
 unfoldable pub judgedOf : Setup → Point → Judged
 judgedOf s p = cond (wolfeHolds s p) (Holds Wolfe) (cond (approximateHolds s p) (Holds Approximate) Fails)
 
--- ---- the flow. K is what is reported meanwhile; a refusal n comes to `refuse n`
+-- ---- the flow. `kept`, of any type K, is what is reported meanwhile; a refusal n comes to `refuse n`; `then` goes on with what was reached
 
-module _ {K R : Type 0} (s : Setup) (refuse : ℕ → R) (k : K) where
+module _ {K R : Type 0} (s : Setup) (refuse : ℕ → R) (kept : K) where
   abbrev pub asking : Float → (Point → Run K R) → Run K R
-  asking x then = question answerFinite refuse k x (λ f g. then (point x f g))
+  asking x then = question answerFinite refuse kept x (λ f g. then (point x f g))
 
   -- 01, refusal 5: "the next trial step comes out not finite; nothing is asked"
   unfoldable pub trial : Float → (Point → Run K R) → Run K R
@@ -129,17 +129,17 @@ module _ {K R : Type 0} (s : Setup) (refuse : ℕ → R) (k : K) where
 
   -- 5, then 7: "U3's next step is not strictly between its two ends; nothing is asked"
   unfoldable pub between : Point → Float → Float → (Point → Run K R) → Run K R
-  between h k' x then = cond (finite x) (cond (h .x <ᶠ x && x <ᶠ k') (asking x then) (end (refuse 7))) (end (refuse 5))
+  between h k x then = cond (finite x) (cond (h .x <ᶠ x && x <ᶠ k) (asking x then) (end (refuse 7))) (end (refuse 5))
 
   -- U3 while n answers may come; where U0 to U2, or the last answer, came `To` a bracket, there is nothing to ask. 6: "one U3 run has had B answers and the last did
   -- not end it", before 5 and 7
   unfoldable pub U3 : ℕ → Came → (Bracket → Run K R) → Run K R
   U3 zero (To u) then = then u
-  U3 zero (On h k') then = end (refuse 6)
+  U3 zero (On h k) then = end (refuse 6)
   U3 (suc n) (To u) then = then u
-  U3 (suc n) (On h k') then =
-      between h k' (middleOf (s .options .params .theta) h k') λ d.
-      U3 n (narrowedOf (s .level) h k' d) then
+  U3 (suc n) (On h k) then =
+      between h k (middleOf (s .options .params .theta) h k) λ d.
+      U3 n (narrowedOf (s .level) h k d) then
 
   abbrev pub update : Bracket → Point → (Bracket → Run K R) → Run K R
   update w c then = U3 (s .options .budget) (updatedOf (s .level) w c) then
@@ -153,9 +153,9 @@ module _ {K R : Type 0} (s : Setup) (refuse : ℕ → R) (k : K) where
   unfoldable pub afterS4 : Bracket → Bracket → (Bracket → Run K R) → Run K R
   afterS4 w v then = further (L2 (s .options .params .gamma) w v) v then
 
-  -- S4 after S1, at the step c, came to u
+  -- S4 after S1, at the step cx, came to u
   unfoldable pub afterS1 : Bracket → Float → Bracket → (Bracket → Run K R) → Run K R
-  afterS1 w c u then = further (S4 w c u) u λ v. afterS4 w v then
+  afterS1 w cx u then = further (S4 w cx u) u λ v. afterS4 w v then
 
   -- "S1: c.x = secant(a, b), ask, update to (A, Z)"
   unfoldable pub iteration : Bracket → (Bracket → Run K R) → Run K R
@@ -178,32 +178,36 @@ pub data Report : Type 0 where
 
 -- a verdict stops the search at the best step; with none it goes on
 unfoldable pub decided : Report → Float → Search Report → Judged → Search Report
-decided k x go (Holds v) = over k (stop (verdictWord v) x)
-decided k x go Fails = go
+decided kept x go (Holds v) = over kept (stop (verdictWord v) x)
+decided kept x go Fails = go
 
+-- "This c is always the start step, never a later trial": `start` is the point there, w the bracket, i the number of finished iterations
 module _ (s : Setup) where
   abbrev pub reportOf : Bracket → Point → ℕ → Report
-  reportOf w c i = last (record { bracket = w; best = bestOf (w .a) (w .b) c; iterations = i })
+  reportOf w start i = last (record { bracket = w; best = bestOf (w .a) (w .b) start; iterations = i })
 
-  -- "Then best, then verdict": the best of the bracket w and the start point c, after i finished iterations
+  -- "Then best, then verdict."
   unfoldable pub verdict : Bracket → Point → ℕ → Search Report → Search Report
-  verdict w c i go =
-      let p = bestOf (w .a) (w .b) c in
-      decided (reportOf w c i) (p .x) go (judgedOf s p)
+  verdict w start i go =
+      let best = bestOf (w .a) (w .b) start in
+      decided (reportOf w start i) (best .x) go (judgedOf s best)
 
   -- "After an iteration the verdict is tested first, then the limit; only then is the next step worked out." n iterations may still be begun.
   unfoldable pub rounds : ℕ → Bracket → Point → ℕ → Search Report
-  rounds zero w c i = verdict w c i (over (reportOf w c i) (limit (bestOf (w .a) (w .b) c .x)))
-  rounds (suc n) w c i =
-      let k = reportOf w c i in
-      verdict w c i (iteration s (leaving k) k w λ v. rounds n v c (i + 1))
+  rounds zero w start i =
+      let best = bestOf (w .a) (w .b) start in
+      verdict w start i (over (reportOf w start i) (limit (best .x)))
+  rounds (suc n) w start i =
+      let kept = reportOf w start i in
+      verdict w start i (iteration s (keeping kept) kept w λ v. rounds n v start (i + 1))
 
-  -- "Start: ask a = min, b = max, c = start step, in that order."
+  -- "Start: ask a = min, b = max, c = start step, in that order." Written from its end: `search` asks min and goes on with `askHigh`, that asks max and goes on with
+  -- `askStart`, and that asks the start step and goes on with the verdict on (a, b). Nothing is reported yet.
   unfoldable pub askStart : Bracket → Search Report
-  askStart w = asking s (leaving noneYet) noneYet (s .options .params .start) λ c. rounds (s .options .limit) w c 0
+  askStart w = asking s (keeping noneYet) noneYet (s .options .params .start) λ c. rounds (s .options .limit) w c 0
 
   unfoldable pub askHigh : Point → Search Report
-  askHigh a = asking s (leaving noneYet) noneYet (s .options .params .max) λ b. askStart (bracket a b)
+  askHigh a = asking s (keeping noneYet) noneYet (s .options .params .max) λ b. askStart (bracket a b)
 
   unfoldable pub search : Search Report
-  search = asking s (leaving noneYet) noneYet (s .options .params .min) λ a. askHigh a
+  search = asking s (keeping noneYet) noneYet (s .options .params .min) λ a. askHigh a
