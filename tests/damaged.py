@@ -6,21 +6,27 @@ usage: damaged.py cases|search PROGRAM [--quick]
 Quick, it tries four other values of each byte instead of all 255, and fewer edits.
 
 Each input must be answered within the time limit, with exit status 0 and output whose every line is of the known kinds. It is also
-compared with what the independent models say must be printed: for cases make_cases_list.py, for search (jobs) make_search_jobs.py,
-as far as that goes (it stops after some hundred steps). Prints how many inputs there were, and
-ends with status 1 at the first that is not answered so.
+compared with what the independent models say must be printed: for cases model_cases.py, for search (jobs) model_jobs.py, which is
+stopped after some hundred steps. Prints how many inputs there were, and ends with status 1 at the first that is not answered so.
 """
 import functools
 import itertools
 import re
+import struct
 import subprocess
 import sys
 import tempfile
 import time
 
-import make_cases_list as cases
-import make_search_jobs as search_jobs
-from exact import Random
+import make_cases
+import make_jobs
+from case_file import answer, backtracks, dot, field, hager_zhang, params, played, point, words
+from exact import F, NAN, Random
+from lists_backtracking import FINE
+from lists_hagerzhang import endings
+from model_cases import case_lines, expected
+from model_curves import curve
+from model_jobs import lines_of
 
 LIMIT_SECONDS = 10
 MODEL_STEPS = 300
@@ -31,18 +37,34 @@ OUTCOME = "ASK {n}|STOP (?:wolfe|approximate|met) {n} {c}|LIMIT {n} {c}|REFUSED 
 CASE_LINE = "CASE [1-9][0-9]*|{o}|BRACKET (?:none|{n}(?: {n}){{5}})|BEST (?:none|{n} {n} {n})|COUNTS {c}|VALUE {n}|POINT|OUT(?: {n}){{0,511}}|MALFORMED at [0-9]+".format(o=OUTCOME, n=NUMBER, c=COUNTS)
 
 
-# ---- what a job must print
-
-def job_lines(job):
-    """The lines, and whether they are all."""
-    lines = list(itertools.islice(search_jobs.lines_of(job), MODEL_STEPS))
-    return lines, not lines[-1].startswith("ASK")
-
+# ---- the files that are damaged
 
 def jobs():
-    """01's sample, a job for every ending and refusal, and some without tag 2."""
-    stored = search_jobs.stored()
+    """The sample, a job for every ending and refusal, and some without tag 2."""
+    stored = make_jobs.stored()
     return [stored[name] for name in ("wolfe_sample", "wolfe_every_field", "approximate", "limit", "2_answer", "4_epsilon_k", "5", "6", "7", "3_curve_9")]
+
+
+def cases():
+    """A few short cases with every kind of field and line."""
+    return [endings()[0], endings()[2], hager_zhang(params(), F(1), NAN, 1, 1) + answer(0, 0), dot([F(1), F(2)], [F(3), F(4)]),
+            played(backtracks(FINE[2], F(0.5), F(8), F(1), F(-2), 4), lambda x, i: curve(1, x), 9, 2), point([F(1)], F(2), [F(3)], 1), point([], F(2), [F(3)], 2)]
+
+
+def malformed():
+    """Files that end malformed, one way each; what is before is well-formed."""
+    hz, bt = endings()[0], backtracks(FINE[0], F(0.5), F(1), F(1), F(-2), 3)
+    d, p, y = dot([F(1)], [F(2)]), point([F(1)], F(2), [F(3)], 1), answer(F(1), F(1))
+    long = [F(1)] * 512
+    ends = [field(0, b""), field(1, b"\1"), field(16, words(0, 0)), field(18, words(0, 0)), field(31, b""), field(36, b""), field(255, b"")]
+    for tag, size in ((17, 16), (32, 96), (33, 53), (34, 4), (35, 14)):
+        ends += [field(tag, bytes(n)) for n in (0, 1, size - 1, size + 1, size + 8, 256 + size, 65535)]
+    ends += [d[:3] + b"\0\2" + d[5:], p[:3] + b"\0\2" + p[5:], dot([0], long), dot(long, [0]), point(long, 0, [0], 1), point([0], 0, long, 1), point([0], 0, [0], 512)]
+    ends += [field(34, struct.pack(">HH", 65535, 1) + bytes(8)), field(35, struct.pack(">HHH", 1, 1, 65535) + bytes(24))]
+    ends += [bt[:3] + bytes([k]) + bt[4:] for k in (0, 5, 255)]
+    ends += [y[:-1], y[:2], y[:1], hz[:98], bt[:55], d[:-1], p[:-1], dot(long[:511], long[:511])[:-1]]
+    files = [before + e for before in (b"", hz, bt, d) for e in ends]
+    return files + [y, d + y, p + y, hz + y + d + y, bt + y + p + y, hager_zhang([NAN] * 9, 0, 0, 1, 1) + y + d + y]
 
 
 # ---- running
@@ -51,7 +73,7 @@ class Judge:
     def __init__(self, kind, program):
         self.kind, self.program = kind, program
         self.line = re.compile("(?:%s)\\Z" % (CASE_LINE if kind == "cases" else OUTCOME))
-        self.lines_of = functools.lru_cache(maxsize=None)(cases.case_lines)
+        self.lines_of = functools.lru_cache(maxsize=None)(case_lines)
         self.seen, self.counts, self.compared, self.slowest = set(), {}, 0, 0.0
 
     def fail(self, data, why, out=b""):
@@ -74,8 +96,9 @@ class Judge:
     def matches(self, data, out):
         """Whether the output is what the model says; the model of a job may stop early."""
         if self.kind == "cases":
-            return out == cases.expected(data, self.lines_of), True
-        lines, whole = job_lines(data)
+            return out == expected(data, self.lines_of), True
+        lines = list(itertools.islice(lines_of(data), MODEL_STEPS))
+        whole = not lines[-1].startswith("ASK")
         told = "".join(line + "\n" for line in lines).encode()
         return (out == told if whole else out.startswith(told)), whole
 
@@ -123,13 +146,14 @@ def edited(r, data, other):
 
 def main(kind, program, quick):
     r, j = Random(20260707), Judge(kind, program)
-    files = cases.small() if kind == "cases" else jobs()
+    files = cases() if kind == "cases" else jobs()
+    long = b"".join(make_cases.listed()) if kind == "cases" else b""
     whole = b"".join(files) if kind == "cases" else b""
     j.judge("whole", b"")
-    for f in files + ([whole, b"".join(cases.listed())] if kind == "cases" else []):
+    for f in files + ([whole, long] if kind == "cases" else []):
         j.judge("whole", f)
     if kind == "cases":
-        for f in cases.malformed():
+        for f in malformed():
             j.judge("malformed", f)
     for f in files + ([whole] if whole else []):
         for n in range(len(f)):
@@ -144,7 +168,6 @@ def main(kind, program, quick):
         f = files[r.below(len(files))] if kind == "search" or n % 4 else whole
         j.judge("random edits", edited(r, f, files[r.below(len(files))]))
     if kind == "cases":
-        long = b"".join(cases.listed())
         for n in range(20 if quick else 400):
             j.judge("long file", edited(r, long, whole) if n % 2 else long[:r.below(len(long))])
     print("%s: %s; %d inputs, all answered, %d of them compared to the end; the slowest took %.2f s" % (
@@ -152,7 +175,7 @@ def main(kind, program, quick):
 
 
 if __name__ == "__main__":
-    words = [a for a in sys.argv[1:] if a != "--quick"]
-    if len(words) != 2 or words[0] not in ("cases", "search"):
+    given = [a for a in sys.argv[1:] if a != "--quick"]
+    if len(given) != 2 or given[0] not in ("cases", "search"):
         sys.exit(__doc__)
-    main(words[0], words[1], "--quick" in sys.argv)
+    main(*given, "--quick" in sys.argv)

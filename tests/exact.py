@@ -1,4 +1,4 @@
-"""f64 from first principles, for the makers of the lists that the test programs run.
+"""f64 from first principles, for the models and the lists of tests.
 
 A float is its 64 bits. Every operation is formed exactly, as a fraction, and rounded once to the nearest f64, ties to even;
 beside it Python's own float does the same operation, and the run breaks off where the two differ in a bit. Any NaN is
@@ -14,11 +14,17 @@ MAX = 0x7FEFFFFFFFFFFFFF
 TINY = 1                      # the smallest subnormal
 SUB = 0x000FFFFFFFFFFFFF      # the largest subnormal
 NORM = 0x0010000000000000     # the smallest normal
+NOT_FINITE = [NAN, INF, SIGN | INF, INF + 1, (1 << 64) - 1]      # among them a signalling NaN and one with every bit set
 
 
 def bits(x):
     b = struct.unpack(">Q", struct.pack(">d", x))[0]
     return NAN if (b & ~SIGN) > INF else b
+
+
+def F(x):
+    """The pattern of a Python number."""
+    return bits(float(x))
 
 
 def flt(b):
@@ -131,6 +137,16 @@ def lt(a, b):
     return le(a, b) and not le(b, a)
 
 
+def above(b):
+    """The next float up, for finite patterns but the zeros."""
+    return b - 1 if b & SIGN else b + 1
+
+
+def below(b):
+    """The next float down, for finite patterns but the zeros."""
+    return b + 1 if b & SIGN else b - 1
+
+
 class Random:
     """A fixed sequence, the same on every machine (Knuth's MMIX constants)."""
 
@@ -147,11 +163,6 @@ class Random:
     def below(self, n):
         return self.word() % n
 
-
-def write_list(path, cases):
-    """Writes a list, which must fit the 65,536 bytes that a test program reads."""
-    out = b"".join(cases)
-    assert len(out) < 65536, len(out)
-    with open(path, "wb") as f:
-        f.write(out)
-    print(f"{len(cases)} cases, {len(out)} bytes")
+    def like(self):
+        """A number of either sign and of a size near 1, so that sums and products of such numbers round."""
+        return (self.word() & (SIGN | ((1 << 52) - 1))) | (1013 + self.below(20)) << 52

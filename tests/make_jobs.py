@@ -1,81 +1,18 @@
 #!/usr/bin/env python3
-"""Makes the jobs that crates/search_jobs runs, with what must be written for each.
+"""Makes jobs for the program `search`, and what must be written for each.
 
-usage: make_search_jobs.py FILE [FOLDER]
+usage: make_jobs.py FOLDER
 
-FILE is the list that the program reads: for each job two bytes with its length, two bytes with the length of its output, the job
-and the output. FOLDER gets the same as files, NAME.job and NAME.out, for whoever runs the program `search` on them.
-
-What must be written is worked out here from the rules alone: the job is taken apart by a reader of its own, field by field,
-and the search is the generator of make_hagerzhang_vectors.py on the floats of exact.py. Nothing of the program under test is used.
+FOLDER gets NAME.job and NAME.out. What must be written is worked out from the rules alone, by the models on the floats of exact.py.
+Nothing of the program under test is used.
 """
 import os
 import struct
 import sys
 
-from exact import INF, MAX, NAN, SIGN, TINY, is_finite, write_list
-from make_backtracking_vectors import curve
-from make_hagerzhang_vectors import APPROXIMATE, DEFAULTS, F, LIMIT, REFUSED, WOLFE, Search, refusal
-
-CURVE, BOUNDS, START, EPSILON, BUDGET, ITERATIONS = 1, 2, 3, 4, 5, 6
-SIZES = {CURVE: 1, BOUNDS: 16, START: 8, EPSILON: 8, BUDGET: 2, ITERATIONS: 2}
-WORDS = {WOLFE: "STOP wolfe", APPROXIMATE: "STOP approximate", LIMIT: "LIMIT"}
-
-
-def fields_of(job):
-    """The fields by their tags, or None where the job is malformed."""
-    fields, at, last = {}, 0, 0
-    while at < len(job):
-        if len(job) - at < 3:
-            return None
-        tag, size = struct.unpack(">BH", job[at:at + 3])
-        body = job[at + 3:at + 3 + size]
-        if tag <= last or SIZES.get(tag) != size or len(body) != size:
-            return None
-        fields[tag] = body
-        last, at = tag, at + 3 + size
-    return fields if CURVE in fields else None
-
-
-def lines_of(job):
-    """The lines that belong to a job, one after the other."""
-    fields = fields_of(job)
-    if fields is None:
-        yield "REFUSED 9"
-        return
-    floats = lambda tag, default: list(struct.unpack(f">{SIZES[tag] // 8}Q", fields[tag])) if tag in fields else default
-    number = lambda tag: int.from_bytes(fields[tag], "big") if tag in fields else 100
-    low, high = floats(BOUNDS, DEFAULTS[6:8])
-    params = DEFAULTS[:2] + floats(EPSILON, DEFAULTS[2:3]) + DEFAULTS[3:6] + [low, high] + floats(START, DEFAULTS[8:])
-    k = fields[CURVE][0]
-    if not all(map(is_finite, params)):
-        yield "REFUSED 2"
-        return
-    if not 1 <= k <= 8:
-        yield "REFUSED 3"
-        return
-    f0, s0 = curve(k - 1, F(0))
-    n = refusal(params, f0, s0, number(BUDGET), number(ITERATIONS))
-    if n:
-        yield f"REFUSED {n}"
-        return
-    yield from told(Search(params, f0, s0, number(BUDGET), number(ITERATIONS)), k)
-
-
-def told(search, k):
-    run = search.run()
-    x = next(run)
-    while search.ended is None:
-        yield f"ASK {x:016X}"
-        try:
-            x = run.send(curve(k - 1, x))
-        except StopIteration:
-            break
-    kind, what = search.ended
-    if kind == REFUSED:
-        yield f"REFUSED {what}"
-    else:
-        yield f"{WORDS[kind]} {what:016X} evaluations {search.evaluations} iterations {search.iterations}"
+from exact import F, INF, MAX, NAN, SIGN, TINY
+from model_curves import NUMBERS
+from model_jobs import BOUNDS, BUDGET, CURVE, EPSILON, ITERATIONS, START, lines_of
 
 
 def field(tag, body, size=None):
@@ -165,29 +102,26 @@ def stored():
         "9_longest_and_one": whole + b"\0",
         "9_before_2": job(1, NAN, NAN) + b"\6",
     }
-    for k in range(1, 9):
+    for k in NUMBERS:
         jobs[f"curve_{k}_alone"] = job(k)
         jobs[f"curve_{k}_within"] = job(k, F(0.01), F(64), F(0.7))
     assert len(whole) == 55
     return jobs
 
 
-def main(path, folder=None):
-    cases, seen = [], set()
-    for name, bytes_ in stored().items():
-        lines = list(lines_of(bytes_))
+def main(folder):
+    seen = set()
+    for name, job in stored().items():
+        lines = list(lines_of(job))
         seen.add(" ".join(lines[-1].split()[:2]) if lines[-1][0] in "SR" else "LIMIT")
-        text = "".join(line + "\n" for line in lines).encode()
-        cases.append(struct.pack(">HH", len(bytes_), len(text)) + bytes_ + text)
-        if folder:
-            for end, what in ((".job", bytes_), (".out", text)):
-                with open(os.path.join(folder, name + end), "wb") as f:
-                    f.write(what)
+        for end, what in ((".job", job), (".out", "".join(line + "\n" for line in lines).encode())):
+            with open(os.path.join(folder, name + end), "wb") as f:
+                f.write(what)
     assert seen == {"STOP wolfe", "STOP approximate", "LIMIT"} | {f"REFUSED {n}" for n in (2, 3, 4, 5, 6, 7, 9)}, seen
-    write_list(path, cases)
+    print("%d jobs" % len(stored()))
 
 
 if __name__ == "__main__":
-    if len(sys.argv) not in (2, 3):
+    if len(sys.argv) != 2:
         sys.exit(__doc__)
-    main(*sys.argv[1:])
+    main(sys.argv[1])

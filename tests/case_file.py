@@ -1,0 +1,61 @@
+"""Writes the fields of a case file, and cases whose answers come from a reply to each step."""
+import struct
+
+from model_cases import ANSWER, BACKTRACKING, DOT, HAGER_ZHANG, POINT, search_of
+from model_hagerzhang import DEFAULTS, NAMES
+
+ANSWER_SIZE = 19
+
+
+def field(tag, body):
+    return struct.pack(">BH", tag, len(body)) + body
+
+
+def words(*w):
+    return struct.pack(">%dQ" % len(w), *w)
+
+
+def params(**changed):
+    """Hager-Zhang's parameters: the defaults, but for those that are named."""
+    return [changed.get(name, default) for name, default in zip(NAMES, DEFAULTS)]
+
+
+def hager_zhang(params, f0, s0, b, n):
+    return field(HAGER_ZHANG, words(*params, f0, s0) + struct.pack(">II", b, n))
+
+
+def backtracks(c, rho, alpha, f0, s0, n):
+    return field(BACKTRACKING, bytes([c[0]]) + words(c[1], c[2], rho, alpha, f0, s0) + struct.pack(">I", n))
+
+
+def answer(cost, slope):
+    return field(ANSWER, words(cost, slope))
+
+
+def dot(a, b):
+    return field(DOT, struct.pack(">HH", len(a), len(b)) + words(*a, *b))
+
+
+def point(x0, alpha, d, k):
+    return field(POINT, struct.pack(">HHH", len(x0), len(d), k) + words(alpha, *x0, *d))
+
+
+def played(start, reply, most, extra=1):
+    """A search: the start, the answers that reply(step, i) gives while a step is asked, and `extra` more; `most` at most."""
+    case, s = start, search_of(start[0], start[3:])
+    outcome = s.first
+    for i in range(most):
+        asked = outcome[0] == "ASK"
+        extra -= not asked
+        if extra < 0:
+            break
+        y = reply(outcome[1] if asked else 0, i)
+        case += answer(*y)
+        outcome = s.answer(*y)
+    return case
+
+
+def cuts(case, most):
+    """The search ended after its start and after each of its first answers, which shows what it holds there."""
+    start = 3 + struct.unpack(">H", case[1:3])[0]
+    return [case[:n] for n in range(start, min(len(case), start + most * ANSWER_SIZE) + 1, ANSWER_SIZE)]

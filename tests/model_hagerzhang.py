@@ -1,0 +1,136 @@
+"""The Hager-Zhang search, from the rules alone, as one piece of code (a generator) with no state machine."""
+from exact import F, absolute, add, div, is_finite, le, lt, mul, sub
+
+ZERO, ONE, TWO = F(0), F(1), F(2)
+EPS = 0x3CB0000000000000
+NAMES = "delta sigma epsilon theta gamma eta low high first".split()
+DEFAULTS = [F(0.1), F(0.9), F(1e-6), F(0.5), F(0.66), F(0.01), EPS, F(1e5), ONE]
+
+
+def secant(p, q):
+    return div(sub(mul(p[0], q[2]), mul(q[0], p[2])), sub(q[2], p[2]))
+
+
+def refusal(params, f0, s0, b, n):
+    delta, sigma, epsilon, theta, gamma, eta, low, high, _ = params
+    if not all(map(is_finite, params + [f0, s0])):
+        return 2
+    inside = lambda x: lt(ZERO, x) and lt(x, ONE)
+    ok = inside(delta) and le(delta, sigma) and lt(sigma, ONE) and le(ZERO, epsilon) and inside(theta) and inside(gamma)
+    ok = ok and lt(ZERO, eta) and le(ZERO, low) and lt(low, high) and 1 <= b <= 1000 and 1 <= n <= 10000
+    if not ok:
+        return 3
+    e = mul(epsilon, absolute(f0))
+    return 0 if is_finite(e) and is_finite(add(f0, e)) else 4
+
+
+class Refused(Exception):
+    pass
+
+
+class Search:
+    """`first` is the start's outcome, and `held` the bracket's two points and the best, or None before the start is in."""
+
+    def __init__(self, params, f0, s0, b, n):
+        self.delta, self.sigma, self.epsilon, self.theta, self.gamma, _, self.low, self.high, self.start = params
+        self.f0, self.s0, self.b, self.n = f0, s0, b, n
+        self.held, self.evaluations, self.iterations = None, 0, 0
+        refused = refusal(params, f0, s0, b, n)
+        self.ended, self.steps = ("REFUSED", refused) if refused else None, self.run()
+        self.first = self.ended or ("ASK", next(self.steps))
+
+    def answer(self, f, g):
+        if self.ended:
+            return "REFUSED", 8
+        try:
+            return "ASK", self.steps.send((f, g))
+        except StopIteration:
+            return self.ended
+
+    def run(self):
+        """The whole search: yields each step, and is sent cost and slope there."""
+        self.level = add(self.f0, mul(self.epsilon, absolute(self.f0)))
+        try:
+            a = yield from self.ask(self.low)
+            b = yield from self.ask(self.high)
+            c = yield from self.ask(self.start)
+            self.ended = self.settle(a, b, c)
+            while self.ended is None:
+                a, b = yield from self.iteration(a, b)
+                self.iterations += 1
+                self.ended = self.settle(a, b, c)
+        except Refused as r:
+            self.ended = "REFUSED", r.args[0]
+
+    def ask(self, x):
+        f, g = yield x
+        if not (is_finite(f) and is_finite(g)):
+            raise Refused(2)
+        self.evaluations += 1
+        return x, f, g
+
+    def trial(self, x):
+        if not is_finite(x):
+            raise Refused(5)
+        return (yield from self.ask(x))
+
+    def update(self, a, b, c):
+        if le(c[0], a[0]) or le(b[0], c[0]):
+            return a, b
+        if le(ZERO, c[2]):
+            return a, c
+        if le(c[1], self.level):
+            return c, b
+        return (yield from self.u3(a, c[0]))
+
+    def u3(self, h, k):
+        had = 0
+        while True:
+            if had == self.b:
+                raise Refused(6)
+            x = add(mul(sub(ONE, self.theta), h[0]), mul(self.theta, k))
+            if not is_finite(x):
+                raise Refused(5)
+            if not (lt(h[0], x) and lt(x, k)):
+                raise Refused(7)
+            d = yield from self.ask(x)
+            had += 1
+            if le(ZERO, d[2]):
+                return h, d
+            if le(d[1], self.level):
+                h = d
+            else:
+                k = d[0]
+
+    def iteration(self, a, b):
+        c = yield from self.trial(secant(a, b))
+        lo, hi = yield from self.update(a, b, c)
+        e = None
+        if lt(absolute(sub(c[0], hi[0])), EPS):
+            e = secant(b, hi)
+        if lt(absolute(sub(c[0], lo[0])), EPS):
+            e = secant(a, lo)
+        if e is not None:
+            d = yield from self.trial(e)
+            lo, hi = yield from self.update(lo, hi, d)
+        if lt(mul(self.gamma, sub(b[0], a[0])), sub(hi[0], lo[0])):
+            d = yield from self.trial(div(add(lo[0], hi[0]), TWO))
+            lo, hi = yield from self.update(lo, hi, d)
+        return lo, hi
+
+    def settle(self, a, b, c):
+        """Best and verdict after the start or an iteration; None where the search goes on."""
+        best = None
+        if le(a[1], b[1]) and le(a[1], c[1]):
+            best = a
+        if le(b[1], a[1]) and le(b[1], c[1]):
+            best = b
+        if le(c[1], a[1]) and le(c[1], b[1]):
+            best = c
+        self.held = a, b, best
+        steep = mul(self.sigma, self.s0)
+        if le(sub(best[1], self.f0), mul(mul(self.delta, best[0]), self.s0)) and le(steep, best[2]):
+            return "STOP wolfe", best[0]
+        if le(best[2], mul(sub(mul(TWO, self.delta), ONE), self.s0)) and le(steep, best[2]) and le(best[1], self.level):
+            return "STOP approximate", best[0]
+        return ("LIMIT", best[0]) if self.iterations == self.n else None
