@@ -1,17 +1,17 @@
 -- One answer to the machine is one answer to 01's rules: what the next state stands for is what the rules leave, and what is told is what they tell.
 -- Assumes nothing of the state but that its limit is a u32.
-use mathlib.Core.Path.{_≡_, refl, sym, ap, _∙_, subst}
+use mathlib.Core.Path.{_≡_, refl, sym, ap, _∙_}
 use mathlib.Core.Bool.{Bool, true, false, cond}
 use Prim.Native.Nat.{ℕ, zero, suc, _+_, _-_, _<_}
 use native.Mathlib.Omega.{arith}
-use lib.Dec.{leb, ltb}
+use lib.Dec.{leb}
 use lib.Ieee.{Float}
 use lib.Ieee.Scale.{finite}
-use borrow.Author.Tests.{le-leb, lt-leb, lt-ltb}
+use borrow.Author.Tests.{le-leb, lt-leb}
 use Rattle.floats.specs.Arithmetic.{_⊗_}
-use Rattle.numbers.specs.Results.{Result, value, refused, unless_refuse_else_}
+use Rattle.numbers.specs.Results.{value}
 use Rattle.outcomes.specs.Outcomes.{stop, limit, refusal, met, asks, told}
-use Rattle.outcomes.specs.Asking.{Search, over, respond, shown, firstOf, onceTold}
+use Rattle.outcomes.specs.Asking.{Search, over, respond, shown, onceTold}
 use Rattle.outcomes.specs.Counters.{counted, evaluations, iterations}
 use Rattle.outcomes.proofs.Machines.{Seen, seen, picks, counts-on}
 use Rattle.outcomes.specs.declared.Evaluations.{Evaluations}
@@ -29,7 +29,7 @@ use Rattle.backtracking.specs.declared.Started.{Started}
 use Rattle.backtracking.specs.declared.Started.the-variants.{Began, NoSearch}
 use Rattle.backtracking.specs.Backtracking.{suppliedFinite, inRanges, trials, search}
 use Rattle.backtracking.specs.Machine.{madeOf, triedOf, answerBy, answerOf, startOf}
-use Rattle.backtracking.specs.Meaning.{meaning, meant, startTold, startSays, Starts, Follows}
+use Rattle.backtracking.specs.Meaning.{meaning, meant, Starts, Follows}
 
 abbrev denote : Step → Seen ℕ
 denote t = (meant (t .search), told (t .outcome))
@@ -107,18 +107,40 @@ follows s h f g r e =
     let z = ap denote e ∙ answers s h f g in
     record { tells = ap (λ (p : Seen ℕ). p .1) z; leaves = ap (λ (p : Seen ℕ). p .0) z }
 
--- `start`
-abbrev Starts-by : Setup → Started → Result (Search ℕ) → Type 0
-Starts-by s r a = (startTold r ≡ a) × (startSays r ≡ firstOf a)
+-- what `answer` promises of its result
+pub promised : (s : Backtracking) (f g : Float) (r : Step) → r ≡ answerOf s f g → (r ≡ answerOf s f g) × (s .setup .limit < 4294967296 → Follows s f g r)
+promised s f g r e = (e, λ h. follows s h f g r e)
 
-starts-with : (s : Setup) (a b : Bool)
-    → Starts-by s (cond a (cond b (Began (madeOf s (evaluations 0) (iterations 0) First (Ask (s .alpha)))) (NoSearch OutOfRange)) (NoSearch SuppliedNotFinite)) (unless a refuse 2 else unless b refuse 3 else value (search s))
+-- ---- `start`
+abbrev pub fresh : Setup → Step
+fresh s = madeOf s (evaluations 0) (iterations 0) First (Ask (s .alpha))
+
+pub starts-whole : (s : Setup) → meant (fresh s .search) ≡ search s
 unfolding meaning
-starts-with s true true = let e : s .limit - 0 ≡ s .limit = omega arith in (rw e, sym (asked-shown s (s .limit) 0 0 (s .alpha)))
-starts-with s true false = (refl, refl)
-starts-with s false b = (refl, refl)
+starts-whole s = let e : s .limit - 0 ≡ s .limit = omega arith in rw e
+
+-- the ways of a start, by the tests that lead there
+pub data Begins (s : Setup) : Started → Type 0 where
+  began : suppliedFinite s ≡ true → inRanges s ≡ true → Begins s (Began (fresh s))
+  not-finite : suppliedFinite s ≡ false → Begins s (NoSearch SuppliedNotFinite)
+  out-of-range : suppliedFinite s ≡ true → inRanges s ≡ false → Begins s (NoSearch OutOfRange)
+
+pub ways : (s : Setup) → Begins s (startOf s)
+ways s = by (suppliedFinite s) (inRanges s) refl refl
+  where
+    by : (a b : Bool) → suppliedFinite s ≡ a → inRanges s ≡ b → Begins s (cond a (cond b (Began (fresh s)) (NoSearch OutOfRange)) (NoSearch SuppliedNotFinite))
+    by true true p q = began p q
+    by true false p q = out-of-range p q
+    by false b p q = not-finite p
+
+as-rules : (s : Setup) {r : Started} → Begins s r → Starts s r
+as-rules s (began p q) = record { stands-for = rw (p, q) (ap value (starts-whole s)); tells-first = rw (p, q) (sym (asked-shown s (s .limit) 0 0 (s .alpha))) }
+as-rules s (not-finite p) = record { stands-for = rw p; tells-first = rw p }
+as-rules s (out-of-range p q) = record { stands-for = rw (p, q); tells-first = rw (p, q) }
 
 pub starts : (s : Setup) (r : Started) → r ≡ startOf s → Starts s r
-starts s r e =
-    let z = starts-with s (suppliedFinite s) (inRanges s) in
-    record { stands-for = ap startTold e ∙ z .0; tells-first = ap startSays e ∙ z .1 }
+starts s r e = rw e (as-rules s (ways s))
+
+-- what `start` promises of its result
+pub start-promised : (s : Setup) (r : Started) → r ≡ startOf s → (r ≡ startOf s) × Starts s r
+start-promised s r e = (e, starts s r e)

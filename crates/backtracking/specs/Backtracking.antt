@@ -5,7 +5,7 @@ use lib.Dec.{leb}
 use lib.Ieee.{Float, binary64, ofBits}
 use lib.Ieee.Scale.{finite}
 use Rattle.floats.specs.Arithmetic.{_⊗_, _<ᶠ_, 0ᶠ, 1ᶠ}
-use Rattle.numbers.specs.Results.{Result, value, refused, unless_refuse_else_}
+use Rattle.numbers.specs.Results.{Result, value, unless_refuse_else_}
 use Rattle.outcomes.specs.Outcomes.{met, stop, limit, refusal}
 use Rattle.outcomes.specs.Asking.{Search, over, keeping, question}
 use Rattle.conditions.specs.declared.Condition.{Condition}
@@ -40,13 +40,14 @@ inRanges s = parametersInRange s && limitInRange (s .limit)
 
 module _ (s : Setup) where
   -- A trial at t. Before its answer is accepted `before` iterations are counted, and a refusal keeps that count; with it there are `now`, one more, but at the first trial.
-  -- The stop has "the verdict "met" and the step".
+  -- The stop has "the verdict "met" and the step"; "the verdict is tested first, then the limit".
   abbrev tested : ℕ → ℕ → Float → Search ℕ → Search ℕ
   tested before now t further =
       question (answerFinite (s .condition)) (keeping before) before t λ f g.
       cond (holdsOf (s .condition) (s .f0) (s .s0) t f g) (over now (stop met t)) further
 
-  -- n trials may follow this one; "its limit has the last step tested". Refusal 5: "the next trial step comes out not finite; nothing is asked"
+  -- n trials may follow this one; "its limit has the last step tested". Refusal 5: "the next trial step comes out not finite; nothing is asked".
+  -- With rho below 1 a finite step never comes to that; 01's table names it for any search.
   unfoldable pub trials : ℕ → ℕ → ℕ → Float → Search ℕ
   trials zero before now t = tested before now t (over now (limit t))
   trials (suc n) before now t =

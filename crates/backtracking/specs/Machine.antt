@@ -1,6 +1,5 @@
 -- The machine's own bookkeeping, which the contracts cite: nobody needs this to check 01. specs/Meaning.antt says what a state stands for in 01's
--- rules, proofs/Bridge.antt that every step is the rules' step, and proofs/Theorems.antt the same for any list of answers.
-use Prim.Native.Nat.{ℕ}
+-- rules, proofs/Bridge.antt that every step is the rules' step, and demands/proofs/Backtracking.antt the same for any list of answers.
 use mathlib.Core.Bool.{cond}
 use lib.Dec.{leb}
 use lib.Ieee.{Float}

@@ -108,8 +108,10 @@ fn in_ranges(s: Setup) -> bool
     steps & limit
 }
 
-fn begun(s: Setup) -> Started
-    ensures { λ r. ⌜ r ≡ startOf s ⌝ }
+// A search that asks the first step, or why there is none.
+pub fn start(s: Setup) -> Started
+    ensures exact { λ r. ⌜ r ≡ startOf s ⌝ }
+    ensures rules { λ r. ⌜ Starts s r ⌝ }
 {
     if !supplied_finite(s) {
         return Started::NoSearch(Refusal::SuppliedNotFinite);
@@ -124,14 +126,6 @@ fn begun(s: Setup) -> Started
         Stage::First,
         Outcome::Ask(s.alpha),
     ))
-}
-
-// A search that asks the first step, or why there is none.
-pub fn start(s: Setup) -> Started
-    ensures exact { λ r. ⌜ r ≡ startOf s ⌝ }
-    ensures rules { λ r. ⌜ Starts s r ⌝ }
-{
-    begun(s)
 }
 
 // The next trial, at t * rho (5).
@@ -183,27 +177,29 @@ fn tried(
     shortened(s, m, now, t)
 }
 
-fn answered(s: Backtracking, f: f64, g: f64) -> Step
-    ensures { λ r. ⌜ r ≡ answerOf s f g ⌝ }
-{
-    let stage = s.stage;
-    let setup = s.setup;
-    let n = s.evaluations;
-    let before = s.iterations;
-    match stage {
-        Stage::First => tried(setup, n, before, before, setup.alpha, f, g),
-        Stage::Later(t) => tried(setup, n, before, before.next(), t, f, g),
-        Stage::Over => Step {
-            search: s,
-            outcome: Outcome::Refused(Refusal::AlreadyOver),
-        },
-    }
-}
-
 // One answer, cost f and slope g: the search with it, and what comes next. It is the step that 01's rules take (the limit is below 2^32, as every u32 is).
 pub fn answer(s: Backtracking, f: f64, g: f64) -> Step
     ensures exact { λ r. ⌜ r ≡ answerOf s f g ⌝ }
     ensures rules { λ r. ⌜ (s .setup .limit < 4294967296 → Follows s f g r) ⌝ }
 {
-    answered(s, f, g)
+    let stage = s.stage;
+    match stage {
+        Stage::First => tried(
+            s.setup,
+            s.evaluations,
+            s.iterations,
+            s.iterations,
+            s.setup.alpha,
+            f,
+            g,
+        ),
+        Stage::Later(t) => {
+            let now = s.iterations.next();
+            tried(s.setup, s.evaluations, s.iterations, now, t, f, g)
+        }
+        Stage::Over => Step {
+            search: s,
+            outcome: Outcome::Refused(Refusal::AlreadyOver),
+        },
+    }
 }

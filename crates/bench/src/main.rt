@@ -20,7 +20,7 @@ struct Tally {
 }
 
 fn chosen() -> Options {
-    let d = decisions::defaults();
+    let d = parameters::defaults();
     let p = d.params;
     Options {
         params: Params {

@@ -11,7 +11,7 @@ use Rattle.outcomes.proofs.Branches.{and-first, and-second}
 use Rattle.wire.specs.Wire.{byteAt, pairOf}
 use Rattle.case_fields.specs.declared.Field.{Field}
 use Rattle.case_fields.specs.declared.Field.the-variants.{StartHagerZhang, StartBacktracking, Answer, Dot, Point, Malformed}
-use Rattle.case_fields.specs.Fields.{isLength, isCondition, dotField, pointField, taggedField, readOf}
+use Rattle.case_fields.specs.Fields.{isLength, isCondition, dotField, pointField, taggedField, readOf, Short}
 
 -- of a field whose body has this size
 abbrev Sound : ℕ → Field → Type 0
@@ -77,14 +77,6 @@ tagged-sound tag size body searching =
     (chosen (Sound size) (eqb tag 35) _ _ (λ e. point-sound size (pairOf body) (pairOf (drop 2 body)) (pairOf (drop 4 body))) tt))))
 
 -- ---- "Each length in 34 and 35 is at most 511."
-
-abbrev pub Short : Field → Type 0
-Short StartHagerZhang = Unit
-Short StartBacktracking = Unit
-Short Answer = Unit
-Short (Dot n m) = (n ≤ 511) × (m ≤ 511)
-Short (Point n m k) = (n ≤ 511) × (m ≤ 511) × (k ≤ 511)
-Short Malformed = Unit
 
 short : (size : ℕ) (f : Field) → Sound size f → Short f
 short size StartHagerZhang s = tt

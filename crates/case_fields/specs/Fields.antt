@@ -1,6 +1,6 @@
--- The fields of a case file: "one-byte tag, two-byte length, body, most significant byte first, floats as their 64 bits". Each definition takes the
+-- The fields of a case file, by docs/FORMATS.md, "A case file". Each definition takes the
 -- bytes from where a field begins: all that are left, or at least as many as the longest well-formed field has.
-use Prim.Native.Nat.{ℕ, _+_, _*_}
+use Prim.Native.Nat.{ℕ, _+_, _*_, _≤_}
 use mathlib.Core.Bool.{Bool, cond, _&&_}
 use mathlib.Core.List.{List}
 use lib.Dec.{ltb, leb, eqb}
@@ -9,23 +9,23 @@ use Rattle.wire.specs.Wire.{byteAt, pairOf}
 use Rattle.case_fields.specs.declared.Field.{Field}
 use Rattle.case_fields.specs.declared.Field.the-variants.{StartHagerZhang, StartBacktracking, Answer, Dot, Point, Malformed}
 
--- "condition 1 Armijo, 2 Goldstein, 3 Wolfe, 4 strong Wolfe in one byte"
+-- "the condition in one byte, 1 Armijo, 2 Goldstein, 3 Wolfe, 4 strong Wolfe"
 abbrev pub isCondition : ℕ → Bool
 isCondition k = leb 1 k && leb k 4
 
--- "Each length in 34 and 35 is at most 511."
+-- "The lengths in 34 and 35 are at most 511."
 abbrev pub isLength : ℕ → Bool
 isLength n = leb n 511
 
--- "dot: two-byte n, two-byte m, n floats, m floats"
+-- 34, dot: "n and m in two bytes each; n floats; m floats"
 unfoldable pub dotField : ℕ → ℕ → ℕ → Field
 dotField size n m = cond (isLength n && isLength m && eqb size (4 + 8 * (n + m))) (Dot n m) Malformed
 
--- "point: two-byte lengths of x0, d and out; alpha; x0; d"
+-- 35, point: "the lengths n of x0, m of d and that of the buffer in two bytes each; alpha; x0; d"
 unfoldable pub pointField : ℕ → ℕ → ℕ → ℕ → Field
 pointField size n m k = cond (isLength n && isLength m && isLength k && eqb size (14 + 8 * (n + m))) (Point n m k) Malformed
 
--- a field by its tag; `searching`: there is "a tag 32 or 33 before it", and no 34 or 35 since
+-- a field by its tag; `searching`: an answer has a 32 or 33 before it, and no 34 or 35 since
 unfoldable pub taggedField : ℕ → ℕ → List ℕ → Bool → Field
 taggedField tag size body searching =
     cond (eqb tag 17) (cond (searching && eqb size 16) Answer Malformed)
@@ -34,9 +34,18 @@ taggedField tag size body searching =
     (cond (eqb tag 34) (dotField size (pairOf body) (pairOf (drop 2 body)))
     (cond (eqb tag 35) (pointField size (pairOf body) (pairOf (drop 2 body)) (pairOf (drop 4 body))) Malformed))))
 
--- "a field cut by the end of the input" is malformed, whatever its tag
+-- malformed, whatever its tag: "a field that the end of the input cuts"
 unfoldable pub readOf : List ℕ → Bool → Field
 readOf s searching =
     let size = pairOf (drop 1 s) in
     let body = drop 3 s in
     cond (ltb (length s) 3) Malformed (cond (ltb (length body) size) Malformed (taggedField (byteAt s 0) size body searching))
+
+-- "The lengths in 34 and 35 are at most 511", of a field that was read
+abbrev pub Short : Field → Type 0
+Short StartHagerZhang = Unit
+Short StartBacktracking = Unit
+Short Answer = Unit
+Short (Dot n m) = (n ≤ 511) × (m ≤ 511)
+Short (Point n m k) = (n ≤ 511) × (m ≤ 511) × (k ≤ 511)
+Short Malformed = Unit

@@ -3,15 +3,12 @@ use mathlib.Core.Bool.{Bool, true, false, cond, _&&_}
 use lib.Ieee.{Float}
 use lib.Ieee.Scale.{finite}
 use Rattle.floats.specs.Arithmetic.{_⊕_, _⊖_, _⊗_, _<ᶠ_, _≤ᶠ_, _≥ᶠ_, 0ᶠ, ½ᶠ, 1ᶠ}
-use Rattle.numbers.specs.Results.{Result, value, refused, unless_refuse_else_}
-use Rattle.numbers.specs.Numbers.{absOf}
+use Rattle.numbers.specs.Results.{Result, value, unless_refuse_else_}
+use Rattle.numbers.specs.Numbers.{bothFinite, absOf}
 use Rattle.conditions.specs.declared.Condition.{Condition}
 use Rattle.conditions.specs.declared.Condition.the-variants.{Armijo, Goldstein, Wolfe, StrongWolfe}
 
 -- ---- 01, "Parameters": "Armijo c in (0, 1); Goldstein c in (0, 0.5); Wolfe and strong Wolfe 0 < c1 < c2 < 1." A NaN is refused (2).
-
-abbrev pub bothFinite : Float → Float → Bool
-bothFinite x y = finite x && finite y
 
 abbrev pub constantsFinite : Condition → Bool
 constantsFinite (Armijo c) = finite c

@@ -3,7 +3,7 @@
 
 use outcomes::Refusal;
 ghost use mathlib.Core.Path.{_≡_};
-ghost use Rattle.conditions.specs.Conditions.{constantsFinite, bothFinite, inRange, checkedOf, needsSlope, answerFinite, holdsOf};
+ghost use Rattle.conditions.specs.Conditions.{constantsFinite, inRange, checkedOf, needsSlope, answerFinite, holdsOf};
 ghost use Rattle.conditions.specs.Told.{checkedTold};
 
 pub enum Condition {
@@ -19,12 +19,6 @@ pub enum Checked {
     Unfit(Refusal),
 }
 
-fn both_finite(x: f64, y: f64) -> bool
-    ensures { λ r. ⌜ r ≡ bothFinite x y ⌝ }
-{
-    numbers::is_finite(x) & numbers::is_finite(y)
-}
-
 impl Condition {
     pub fn constants_finite(self) -> bool
         ensures { λ r. ⌜ r ≡ constantsFinite self ⌝ }
@@ -32,8 +26,8 @@ impl Condition {
         match self {
             Condition::Armijo { c } => numbers::is_finite(c),
             Condition::Goldstein { c } => numbers::is_finite(c),
-            Condition::Wolfe { c1, c2 } => both_finite(c1, c2),
-            Condition::StrongWolfe { c1, c2 } => both_finite(c1, c2),
+            Condition::Wolfe { c1, c2 } => numbers::both_finite(c1, c2),
+            Condition::StrongWolfe { c1, c2 } => numbers::both_finite(c1, c2),
         }
     }
 
@@ -76,7 +70,7 @@ impl Condition {
         ensures { λ r. ⌜ r ≡ answerFinite self f s ⌝ }
     {
         if self.needs_slope() {
-            both_finite(f, s)
+            numbers::both_finite(f, s)
         } else {
             numbers::is_finite(f)
         }

@@ -1,7 +1,7 @@
 -- The table's rule, proved once over the table: a test that holds of each entry holds at every place; so each coefficient is an i8. And nothing is lost in the cast to
 -- f64: cast back, each coefficient is what it was (`cast-back`). Assumes nothing.
 use mathlib.Core.Path.{_≡_, refl}
-use mathlib.Core.Bool.{Bool, true, false, _&&_}
+use mathlib.Core.Bool.{Bool, true, _&&_}
 use mathlib.Core.List.{List, [], _∷_, map}
 use Prim.Native.Nat.{ℕ, zero, suc, _^_}
 use lib.Dec.{T, ltb}

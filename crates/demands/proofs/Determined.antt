@@ -7,11 +7,11 @@ use mathlib.Core.List.{List}
 use Prim.Native.Nat.{ℕ}
 use lib.ListN.{length}
 use lib.Ieee.{Float}
-use Rattle.numbers.specs.declared.DotResult.{DotResult}
-use Rattle.numbers.specs.declared.PointResult.{PointResult}
-use Rattle.numbers.specs.Numbers.{dotOf, pointOf, heldAfter}
-use Rattle.numbers.specs.Told.{dotTold, pointTold}
-use Rattle.numbers.proofs.Determined.{dot-determined, point-determined}
+use Rattle.vectors.specs.declared.DotResult.{DotResult}
+use Rattle.vectors.specs.declared.PointResult.{PointResult}
+use Rattle.vectors.specs.Vectors.{dotOf, pointOf, heldAfter}
+use Rattle.vectors.specs.Told.{dotTold, pointTold}
+use Rattle.vectors.proofs.Determined.{dot-determined, point-determined}
 use Rattle.outcomes.specs.declared.Outcome.{Outcome}
 use Rattle.outcomes.specs.Outcomes.{Told, told}
 use Rattle.outcomes.proofs.Determined.{told-determined}
@@ -24,10 +24,11 @@ use Rattle.curves.specs.declared.Curve.{Curve}
 use Rattle.text.specs.Text.{Page, page}
 use Rattle.text.proofs.Writing.{told as same-page}
 use Rattle.jobs.specs.declared.Reading.{Reading}
-use Rattle.jobs.specs.declared.Opened.{Opened}
+use Rattle.opening.specs.declared.Opened.{Opened}
 use Rattle.jobs.specs.Reader.{jobOf, readTold}
-use Rattle.jobs.specs.Start.{beginOf, openedTold}
-use Rattle.jobs.proofs.Determined.{read-determined, begin-determined}
+use Rattle.opening.specs.Start.{beginOf, openedTold}
+use Rattle.jobs.proofs.Determined.{read-determined}
+use Rattle.opening.proofs.Determined.{begin-determined}
 use Rattle.play.specs.declared.Played.{Played}
 use Rattle.play.specs.declared.Written.{Written}
 use Rattle.play.proofs.Determined.{Allowed, play-determined}

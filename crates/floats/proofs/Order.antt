@@ -4,13 +4,13 @@
 -- Assumes nothing.
 use mathlib.Core.Path.{_≡_}
 use mathlib.Core.Logic.{_⊎_, inl, inr}
-use mathlib.Core.Bool.{true, false, not, false≢true}
-use lib.Dec.{T, T-not}
+use mathlib.Core.Bool.{true, false, false≢true}
+use lib.Dec.{T-not}
 use lib.Ieee.{Float, nan, inf, fin, lt, le, eq, isNan}
 use lib.Ieee.Bits.{is-true, is-false}
 use lib.Ieee.Scale.{finite}
 use Rattle.floats.specs.Arithmetic.{_<ᶠ_, _≤ᶠ_}
-use Rattle.floats.proofs.Tests.{yes, no, yes-or-no, or-l, or-r, or-other}
+use Rattle.floats.proofs.Tests.{yes, no, yes-or-no, or-r, or-other}
 use Rattle.floats.proofs.Compare.{trans, excludes, converse, weaken, left-real, right-real}
 
 -- ---- no NaN

@@ -1,7 +1,7 @@
 -- ±a < ±b and ±a ≤ ±b for natural numbers with a sign, as facts and as the tests that `lt` and `le` of floats come to; and the order of
 -- signed fractions is transitive. +0 and -0 are level. Assumes nothing.
 use mathlib.Core.Path.{_≡_, sym, ap, _∙_}
-use mathlib.Core.Logic.{_⊎_, inl, inr}
+use mathlib.Core.Logic.{inl, inr}
 use mathlib.Core.Bool.{Bool, true, false, not, _&&_, _||_}
 use Prim.Native.Nat.{ℕ, _+_, _*_, _≤_, _<_}
 use native.Mathlib.Nat.{eq-or-lt-of-le, eq-zero-or-pos, le-of-lt, le-of-eq, le-refl, zero-mul, mul-pos, mul-le-mul-right}

@@ -1,22 +1,21 @@
 -- One answer to the machine is one answer to 01's rules: what the next state stands for is what the rules leave, and what is told is what they tell
 -- (`answers`). Assumes nothing of the state but that its limit is a u32.
-use mathlib.Core.Path.{_≡_, refl, sym, ap, _∙_, subst}
+use mathlib.Core.Path.{_≡_, refl, ap, _∙_}
 use mathlib.Core.Bool.{Bool, true, false, cond, _&&_}
 use Prim.Native.Nat.{ℕ, zero, suc, _+_, _-_, _≤_, _<_}
 use native.Mathlib.Nat.{suc-ne-zero}
 use native.Mathlib.Omega.{arith}
-use lib.Dec.{leb, ltb, eqb}
+use lib.Dec.{leb, eqb}
 use lib.Ieee.{Float}
 use lib.Ieee.Scale.{finite}
-use borrow.Author.Tests.{leb-true, leb-false, lt-ltb, ne-eqb}
+use borrow.Author.Tests.{leb-true, leb-false, ne-eqb}
 use Rattle.floats.specs.Arithmetic.{_<ᶠ_}
-use Rattle.numbers.specs.Results.{Result, value, refused, unless_refuse_else_}
+use Rattle.numbers.specs.Results.{value}
 use Rattle.outcomes.specs.Outcomes.{limit, told}
-use Rattle.outcomes.specs.Asking.{Search as Run, end, over, keeping, respond, shown, firstOf, onceTold}
+use Rattle.outcomes.specs.Asking.{Search as Rest, over, keeping, respond, shown, onceTold}
 use Rattle.outcomes.specs.Counters.{counted, evaluations, iterations}
 use Rattle.outcomes.proofs.Machines.{Seen, seen, picks, counts-on}
 use Rattle.outcomes.specs.declared.Evaluations.{Evaluations}
-use Rattle.outcomes.specs.declared.Outcome.the-variants.{Ask, Limit, Refused}
 use Rattle.outcomes.specs.declared.Refusal.the-variants.{SuppliedNotFinite, OutOfRange, ResultNotFinite}
 use Rattle.rules.specs.declared.Point.{Point}
 use Rattle.rules.specs.declared.Bracket.{Bracket}
@@ -32,16 +31,15 @@ use Rattle.hagerzhang.specs.declared.Finished.{Finished}
 use Rattle.hagerzhang.specs.declared.Rule.{Rule}
 use Rattle.hagerzhang.specs.declared.Rule.the-variants.{S1 as ByS1, S4 as ByS4, L2 as ByL2}
 use Rattle.hagerzhang.specs.declared.Trial.{Trial}
-use Rattle.hagerzhang.specs.declared.Asked.{Asked}
 use Rattle.hagerzhang.specs.declared.Waiting.{Waiting}
 use Rattle.hagerzhang.specs.declared.Waiting.the-variants.{Low, High, Start, Running}
 use Rattle.hagerzhang.specs.declared.Stage.{Stage}
 use Rattle.hagerzhang.specs.declared.Stage.the-variants.{Open, Over}
 use Rattle.hagerzhang.specs.declared.Move.{Move}
-use Rattle.hagerzhang.specs.declared.Move.the-variants.{Try, Narrow, Stop as ByVerdict, Limit as ByLimit}
-use Rattle.hagerzhang.specs.declared.Tested.{Tested}
+use Rattle.hagerzhang.specs.declared.Move.the-variants.{Limit as ByLimit}
+use Rattle.hagerzhang.specs.declared.moves.Tested.{Tested}
 use Rattle.hagerzhang.specs.declared.Then.{Then}
-use Rattle.hagerzhang.specs.declared.Then.the-variants.{Go, Close}
+use Rattle.hagerzhang.specs.declared.Then.the-variants.{Close}
 use Rattle.hagerzhang.specs.declared.Next.{Next}
 use Rattle.hagerzhang.specs.declared.Search.{Search}
 use Rattle.hagerzhang.specs.declared.Step.{Step}
@@ -49,8 +47,8 @@ use Rattle.hagerzhang.specs.declared.Started.{Started}
 use Rattle.hagerzhang.specs.declared.Started.the-variants.{Began, NoSearch}
 use Rattle.rules.specs.Parameters.{suppliedFinite, inRanges, epsilonK, levelOf, setupOf}
 use Rattle.rules.specs.Rules.{point, answerFinite, middleOf, secantOf, S4, L2, bestOf, judgedOf, trial, between, U3, update, further, afterS4, afterS1, iteration, Report, reportOf, decided, verdict, rounds, askStart, askHigh, search}
-use Rattle.hagerzhang.specs.Machine.{trialAt, comesOf, leftOf, attemptOf, probeOf, testedOf, madeBy, triedBy, afterS4Of, afterS1Of, followBy, onwardOf, openedOf, closedOf, outlookBy, outlookOf, madeOf, settledOf, wentOf, reactOf, keptOf, takenOf, answerBy, answerOf, fresh, startOf}
-use Rattle.hagerzhang.specs.Meaning.{lastOf, keptReport, ended, afterTrial, onAsked, onAnswer, askedStep, stepOf, meaning, meant, startTold, startSays, begun, Starts, Follows}
+use Rattle.hagerzhang.specs.Machine.{tryAt, finishedOf, comesOf, leftOf, attemptOf, probeOf, testedOf, madeBy, triedBy, afterS4Of, afterS1Of, followBy, onwardOf, outlookBy, madeOf, settledOf, wentOf, reactOf, keptOf, takenOf, answerBy, answerOf, fresh, startOf}
+use Rattle.hagerzhang.specs.Meaning.{lastOf, keptReport, ended, afterTrial, onAnswer, askedStep, stepOf, meaning, meant, Starts, Follows}
 
 denote : Setup → Next → Seen Report
 denote s n = (meaning s (n .stage), told (n .outcome))
@@ -74,20 +72,20 @@ module _ (s : Setup) (fin : Finished) where
   put t = denote s (madeBy fin t)
 
   -- a trial (5)
-  tries : (rule : Rule) (w : Bracket) (x : Float) → moved (Try w (trialAt rule x)) ≡ seen (trial s (keeping k) k x (λ c. update s (keeping k) k w c (afterTrial s fin rule x)))
+  tries : (rule : Rule) (w : Bracket) (x : Float) → moved (tryAt w rule x) ≡ seen (trial s (keeping k) k x (λ c. update s (keeping k) k w c (afterTrial s fin rule x)))
   unfolding attemptOf testedOf madeBy trial onAnswer comesOf leftOf keptOf stepOf askedStep keptReport denote seen onceTold shown meaning
   tries rule w x = picks put (finite x) _ _ _ _ refl refl
 
 -- ---- the start or an iteration is finished: the verdict, the limit, and S1 of the next iteration
 module _ (s : Setup) (h : s .options .limit < 4294967296) (w : Bracket) (c : Point) (i : ℕ) where
   abbrev done : Finished
-  done = record { bracket = w; start = c; best = bestOf (w .a) (w .b) c; iterations = iterations i }
+  done = finishedOf w c (iterations i)
 
   abbrev N : ℕ
   N = s .options .limit
 
   -- what follows the verdict, while n iterations may be begun
-  onwards : ℕ → Run Report
+  onwards : ℕ → Rest Report
   onwards zero = over (reportOf s w c i) (limit (bestOf (w .a) (w .b) c .x))
   onwards (suc n) = iteration s (keeping (reportOf s w c i)) (reportOf s w c i) w (λ v. rounds s n v c (i + 1))
 
@@ -100,7 +98,7 @@ module _ (s : Setup) (h : s .options .limit < 4294967296) (w : Bracket) (c : Poi
   unfolding onwards testedOf madeBy denote seen onceTold shown keptReport meaning
   limits n e = rw e
 
-  begins : (n : ℕ) → counted i ≡ i + 1 → n ≡ suc (N - counted i) → moved s done (Try w (trialAt ByS1 (secantOf (w .a) (w .b)))) ≡ seen (onwards n)
+  begins : (n : ℕ) → counted i ≡ i + 1 → n ≡ suc (N - counted i) → moved s done (tryAt w ByS1 (secantOf (w .a) (w .b))) ≡ seen (onwards n)
   unfolding onwards iteration afterTrial trial
   begins n p e = rw (e, ← p) (tries s done ByS1 w (secantOf (w .a) (w .b)))
 
@@ -108,20 +106,20 @@ module _ (s : Setup) (h : s .options .limit < 4294967296) (w : Bracket) (c : Poi
   unfolding outlookBy
   unjudged = go (leb N i) refl
     where
-      go : (b : Bool) → leb N i ≡ b → moved s done (cond b ByLimit (Try w (trialAt ByS1 (secantOf (w .a) (w .b))))) ≡ seen (onwards (N - i))
+      go : (b : Bool) → leb N i ≡ b → moved s done (cond b ByLimit (tryAt w ByS1 (secantOf (w .a) (w .b)))) ≡ seen (onwards (N - i))
       go true e = limits (N - i) (let l : N ≤ i = leb-true N i e in omega arith)
       go false e =
           let l : i < N = leb-false N i e in
           let p : counted i ≡ i + 1 = counts-on i N h l in
           begins (N - i) p (rw p (omega arith))
 
-  judges : (go : Run Report) → moved s done (outlookBy s done Fails) ≡ seen go → (j : Judged)
+  judges : (go : Rest Report) → moved s done (outlookBy s done Fails) ≡ seen go → (j : Judged)
       → moved s done (outlookBy s done j) ≡ seen (decided (reportOf s w c i) (done .best .x) go j)
   unfolding outlookBy decided testedOf madeBy denote seen onceTold shown keptReport meaning
   judges go e (Holds v) = refl
   judges go e Fails = e
 
-  settles : denote s (settledOf s done) ≡ seen (rounds s (N - i) w c i)
+  settles : denote s (settledOf s w c (iterations i)) ≡ seen (rounds s (N - i) w c i)
   unfolding verdict
   settles = judges (onwards (N - i)) unjudged (judgedOf s (done .best)) ∙ ap seen (round-is (N - i))
 
@@ -135,7 +133,7 @@ module _ (s : Setup) (h : s .options .limit < 4294967296) (fin : Finished) where
   closes v = settles s h v (fin .start) (counted (fin .iterations .0))
 
   -- a further trial, or otherwise what follows
-  tried : (u : Bracket) (rule : Rule) (otherwise : Then) (then : Bracket → Run Report) (f : Further) → went s fin otherwise ≡ seen (then u)
+  tried : (u : Bracket) (rule : Rule) (otherwise : Then) (then : Bracket → Rest Report) (f : Further) → went s fin otherwise ≡ seen (then u)
       → ((x : Float) → then ≡ afterTrial s fin rule x) → went s fin (triedBy u rule otherwise f) ≡ seen (further s (keeping (lastOf fin)) (lastOf fin) f u then)
   unfolding triedBy further wentOf
   tried u rule otherwise then (At x) e same = rw (same x) (tries s fin rule u x)
@@ -158,7 +156,7 @@ module _ (s : Setup) (h : s .options .limit < 4294967296) (fin : Finished) where
   follows-on ByL2 c u = closes u
 
   module _ (t : Trial) where
-    abbrev goes-on : Bracket → Run Report
+    abbrev goes-on : Bracket → Rest Report
     goes-on = afterTrial s fin (t .rule) (t .x)
 
     -- U3 while n answers may come
@@ -174,7 +172,7 @@ module _ (s : Setup) (h : s .options .limit < 4294967296) (fin : Finished) where
         rw (e, z) (picks (put s fin) (finite x) _ _ _ _ (picks (put s fin) (a .x <ᶠ x && x <ᶠ k') _ _ _ _ refl refl) refl)
 
 module _ (s : Setup) (h : s .options .limit < 4294967296) where
-  starts-rounds : (w : Bracket) (c : Point) → denote s (settledOf s (openedOf w c)) ≡ seen (rounds s (s .options .limit) w c 0)
+  starts-rounds : (w : Bracket) (c : Point) → denote s (settledOf s w c (iterations 0)) ≡ seen (rounds s (s .options .limit) w c 0)
   starts-rounds w c = let e : s .options .limit - 0 ≡ s .options .limit = omega arith in rw e at (settles s h w c 0)
 
   -- every finite answer
@@ -218,18 +216,32 @@ first-asked : (s : Setup) → told (fresh s .outcome) ≡ shown (search s)
 unfolding shown search
 first-asked s = refl
 
-abbrev StartsBy : Started → Result Setup → Type 0
-StartsBy r a = (startTold r ≡ begun a) × (startSays r ≡ firstOf (begun a))
+-- the ways of a start, by the tests that lead there
+pub data Begins (o : Options) (f0 s0 : Float) : Started → Type 0 where
+  began : suppliedFinite o f0 s0 ≡ true → inRanges o ≡ true → (finite (epsilonK o f0) && finite (levelOf o f0)) ≡ true → Begins o f0 s0 (Began (fresh (setupOf o f0 s0)))
+  not-finite : suppliedFinite o f0 s0 ≡ false → Begins o f0 s0 (NoSearch SuppliedNotFinite)
+  out-of-range : suppliedFinite o f0 s0 ≡ true → inRanges o ≡ false → Begins o f0 s0 (NoSearch OutOfRange)
+  level-not-finite : suppliedFinite o f0 s0 ≡ true → inRanges o ≡ true → (finite (epsilonK o f0) && finite (levelOf o f0)) ≡ false → Begins o f0 s0 (NoSearch ResultNotFinite)
 
-starts-with : (s : Setup) (a b d : Bool)
-    → StartsBy (cond a (cond b (cond d (Began (fresh s)) (NoSearch ResultNotFinite)) (NoSearch OutOfRange)) (NoSearch SuppliedNotFinite))
-    (unless a refuse 2 else unless b refuse 3 else unless d refuse 4 else value s)
-starts-with s true true true = (ap value (starts-whole s), first-asked s)
-starts-with s true true false = (refl, refl)
-starts-with s true false d = (refl, refl)
-starts-with s false b d = (refl, refl)
+pub ways : (o : Options) (f0 s0 : Float) → Begins o f0 s0 (startOf o f0 s0)
+ways o f0 s0 = by (suppliedFinite o f0 s0) (inRanges o) (finite (epsilonK o f0) && finite (levelOf o f0)) refl refl refl
+  where
+    by : (a b d : Bool) → suppliedFinite o f0 s0 ≡ a → inRanges o ≡ b → (finite (epsilonK o f0) && finite (levelOf o f0)) ≡ d
+        → Begins o f0 s0 (cond a (cond b (cond d (Began (fresh (setupOf o f0 s0))) (NoSearch ResultNotFinite)) (NoSearch OutOfRange)) (NoSearch SuppliedNotFinite))
+    by true true true p q l = began p q l
+    by true true false p q l = level-not-finite p q l
+    by true false d p q l = out-of-range p q
+    by false b d p q l = not-finite p
+
+as-rules : (o : Options) (f0 s0 : Float) {r : Started} → Begins o f0 s0 r → Starts o f0 s0 r
+as-rules o f0 s0 (began p q l) = record { stands-for = rw (p, q, l) (ap value (starts-whole (setupOf o f0 s0))); tells-first = rw (p, q, l) (first-asked (setupOf o f0 s0)) }
+as-rules o f0 s0 (not-finite p) = record { stands-for = rw p; tells-first = rw p }
+as-rules o f0 s0 (out-of-range p q) = record { stands-for = rw (p, q); tells-first = rw (p, q) }
+as-rules o f0 s0 (level-not-finite p q l) = record { stands-for = rw (p, q, l); tells-first = rw (p, q, l) }
 
 pub starts : (o : Options) (f0 s0 : Float) (r : Started) → r ≡ startOf o f0 s0 → Starts o f0 s0 r
-starts o f0 s0 r e =
-    let z = starts-with (setupOf o f0 s0) (suppliedFinite o f0 s0) (inRanges o) (finite (epsilonK o f0) && finite (levelOf o f0)) in
-    record { stands-for = ap startTold e ∙ z .0; tells-first = ap startSays e ∙ z .1 }
+starts o f0 s0 r e = rw e (as-rules o f0 s0 (ways o f0 s0))
+
+-- what `start` promises of its result
+pub start-promised : (o : Options) (f0 s0 : Float) (r : Started) → r ≡ startOf o f0 s0 → (r ≡ startOf o f0 s0) × Starts o f0 s0 r
+start-promised o f0 s0 r e = (e, starts o f0 s0 r e)

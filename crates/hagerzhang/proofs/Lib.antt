@@ -1,5 +1,2 @@
 pub mod Bridge
-pub mod Demand2
-pub mod Demand3
-pub mod Refusals
-pub mod Untouched
+pub mod Answering

@@ -1,8 +1,8 @@
 -- The machine's own bookkeeping, which the contracts cite. 01's rules are checked without it: specs/Meaning.antt says what a state stands for in them,
--- proofs/Bridge.antt that every step is the rules' step, and proofs/Demand2.antt the same for any list of answers. specs/Refusals.antt speaks of the move that
--- it makes due, so as to say of any state when it is refused.
-use Prim.Native.Nat.{ℕ, zero, suc, _-_}
-use mathlib.Core.Bool.{Bool, cond, _&&_}
+-- proofs/Bridge.antt that every step is the rules' step, and demands/proofs/Demand2.antt the same for any list of answers. demands/specs/HagerZhangRefusals.antt
+-- speaks of the move that it makes due, so as to say of any state when it is refused.
+use Prim.Native.Nat.{ℕ, _-_}
+use mathlib.Core.Bool.{cond, _&&_}
 use lib.Dec.{leb, eqb}
 use lib.Ieee.{Float}
 use lib.Ieee.Scale.{finite}
@@ -11,6 +11,7 @@ use Rattle.outcomes.specs.declared.Evaluations.{Evaluations}
 use Rattle.outcomes.specs.declared.Iterations.{Iterations}
 use Rattle.outcomes.specs.declared.Outcome.{Outcome}
 use Rattle.outcomes.specs.declared.Outcome.the-variants.{Ask, Stop, Limit, Refused}
+use Rattle.outcomes.specs.declared.Refusal.{Refusal}
 use Rattle.outcomes.specs.declared.Refusal.the-variants.{SuppliedNotFinite, OutOfRange, ResultNotFinite, StepNotFinite, BudgetSpent, StepNotBetween, AlreadyOver}
 use Rattle.outcomes.specs.Counters.{counted, evaluations, iterations}
 use Rattle.rules.specs.declared.Point.{Point}
@@ -38,8 +39,8 @@ use Rattle.hagerzhang.specs.declared.Stage.{Stage}
 use Rattle.hagerzhang.specs.declared.Stage.the-variants.{Open, Over}
 use Rattle.hagerzhang.specs.declared.Move.{Move}
 use Rattle.hagerzhang.specs.declared.Move.the-variants.{Try, Narrow, Stop as ByVerdict, Limit as ByLimit}
-use Rattle.hagerzhang.specs.declared.Tested.{Tested}
-use Rattle.hagerzhang.specs.declared.Tested.the-variants.{Try as Asks, Narrow as Narrows, End as Stops}
+use Rattle.hagerzhang.specs.declared.moves.Tested.{Tested}
+use Rattle.hagerzhang.specs.declared.moves.Tested.the-variants.{Try as Asks, Narrow as Narrows, End as Stops}
 use Rattle.hagerzhang.specs.declared.Then.{Then}
 use Rattle.hagerzhang.specs.declared.Then.the-variants.{Go, Close}
 use Rattle.hagerzhang.specs.declared.Next.{Next}
@@ -50,14 +51,67 @@ use Rattle.hagerzhang.specs.declared.Started.the-variants.{Began, NoSear
 use Rattle.rules.specs.Parameters.{suppliedFinite, inRanges, epsilonK, levelOf, setupOf}
 use Rattle.rules.specs.Rules.{point, bracket, answerFinite, updatedOf, middleOf, narrowedOf, secantOf, S4, L2, bestOf, judgedOf}
 
-abbrev pub trialAt : Rule → Float → Trial
-trialAt rule x = record { rule = rule; x = x }
+-- ---- what is asked, and how a search ends
 
 abbrev pub ends : Point → Float → Float → ℕ → Ends
 ends h k d left = record { h = h; k = k; d = d; left = left }
 
 abbrev pub next : Stage → Outcome → Next
 next s o = record { stage = s; outcome = o }
+
+abbrev pub asking : Waiting → Float → Next
+asking waiting x = next (Open waiting) (Ask x)
+
+abbrev pub ending : Kept → Outcome → Next
+ending kept o = next (Over kept) o
+
+abbrev pub tryAt : Bracket → Rule → Float → Move
+tryAt u rule x = Try u (record { rule = rule; x = x })
+
+-- ---- a move, and the end of an iteration
+
+abbrev pub refusedBy : Refusal → Tested
+refusedBy r = Stops (Refused r)
+
+unfoldable pub attemptOf : Bracket → Trial → Tested
+attemptOf u t = cond (finite (t .x)) (Asks u t) (refusedBy StepNotFinite)
+
+unfoldable pub probeOf : Float → Trial → Point → Float → ℕ → Tested
+probeOf theta t h k left =
+    let d = middleOf theta h k in
+    cond (eqb left 0) (refusedBy BudgetSpent)
+    (cond (finite d) (cond (h .x <ᶠ d && d <ᶠ k) (Narrows t (ends h k d (left - 1))) (refusedBy StepNotBetween))
+    (refusedBy StepNotFinite))
+
+unfoldable pub testedOf : Float → Float → Move → Tested
+testedOf theta best (Try u t) = attemptOf u t
+testedOf theta best (Narrow t h k left) = probeOf theta t h k left
+testedOf theta best (ByVerdict v) = Stops (Stop v best)
+testedOf theta best ByLimit = Stops (Limit best)
+
+unfoldable pub madeBy : Finished → Tested → Next
+madeBy last (Asks u t) = asking (Running last t (Update u)) (t .x)
+madeBy last (Narrows t e) = asking (Running last t (Between e)) (e .d)
+madeBy last (Stops o) = ending (Last last) o
+
+abbrev pub madeOf : Float → Finished → Move → Next
+madeOf theta last m = madeBy last (testedOf theta (last .best .x) m)
+
+unfoldable pub outlookBy : Setup → Finished → Judged → Move
+outlookBy s last (Holds v) = ByVerdict v
+outlookBy s last Fails =
+    cond (leb (s .options .limit) (last .iterations .0)) ByLimit (tryAt (last .bracket) ByS1 (secantOf (last .bracket .a) (last .bracket .b)))
+
+abbrev pub outlookOf : Setup → Finished → Move
+outlookOf s last = outlookBy s last (judgedOf s (last .best))
+
+abbrev pub finishedOf : Bracket → Point → Iterations → Finished
+finishedOf w c i = record { bracket = w; start = c; best = bestOf (w .a) (w .b) c; iterations = i }
+
+abbrev pub settledOf : Setup → Bracket → Point → Iterations → Next
+settledOf s w c i = madeOf (s .options .params .theta) (finishedOf w c i) (outlookOf s (finishedOf w c i))
+
+-- ---- an answer in an iteration
 
 unfoldable pub comesOf : Float → Trial → Asked → Float → Float → Came
 comesOf L t (Update w) f g = updatedOf L w (point (t .x) f g)
@@ -68,7 +122,7 @@ leftOf budget (Update w) = budget
 leftOf budget (Between e) = e .left
 
 unfoldable pub triedBy : Bracket → Rule → Then → Further → Then
-triedBy u rule otherwise (At x) = Go (Try u (trialAt rule x))
+triedBy u rule otherwise (At x) = Go (tryAt u rule x)
 triedBy u rule otherwise Nothing = otherwise
 
 abbrev pub afterS4Of : Float → Bracket → Bracket → Then
@@ -89,64 +143,25 @@ unfoldable pub onwardOf : Float → Bracket → Trial → ℕ → Came → Then
 onwardOf gamma w t left (To u) = followOf gamma w t u
 onwardOf gamma w t left (On h k) = Go (Narrow t h k left)
 
-abbrev pub openedOf : Bracket → Point → Finished
-openedOf w c = record { bracket = w; start = c; best = bestOf (w .a) (w .b) c; iterations = iterations 0 }
-
-abbrev pub closedOf : Finished → Bracket → Finished
-closedOf last v = record {
-  bracket = v;
-  start = last .start;
-  best = bestOf (v .a) (v .b) (last .start);
-  iterations = iterations (counted (last .iterations .0));
-}
-
-unfoldable pub outlookBy : Setup → Finished → Judged → Move
-outlookBy s last (Holds v) = ByVerdict v
-outlookBy s last Fails =
-    cond (leb (s .options .limit) (last .iterations .0)) ByLimit
-    (Try (last .bracket) (trialAt ByS1 (secantOf (last .bracket .a) (last .bracket .b))))
-
-abbrev pub outlookOf : Setup → Finished → Move
-outlookOf s last = outlookBy s last (judgedOf s (last .best))
-
-unfoldable pub attemptOf : Bracket → Trial → Tested
-attemptOf u t = cond (finite (t .x)) (Asks u t) (Stops (Refused StepNotFinite))
-
-unfoldable pub probeOf : Float → Trial → Point → Float → ℕ → Tested
-probeOf theta t h k left =
-    let d = middleOf theta h k in
-    cond (eqb left 0) (Stops (Refused BudgetSpent))
-    (cond (finite d) (cond (h .x <ᶠ d && d <ᶠ k) (Narrows t (ends h k d (left - 1))) (Stops (Refused StepNotBetween)))
-    (Stops (Refused StepNotFinite)))
-
-unfoldable pub testedOf : Float → Float → Move → Tested
-testedOf theta best (Try u t) = attemptOf u t
-testedOf theta best (Narrow t h k left) = probeOf theta t h k left
-testedOf theta best (ByVerdict v) = Stops (Stop v best)
-testedOf theta best ByLimit = Stops (Limit best)
-
-unfoldable pub madeBy : Finished → Tested → Next
-madeBy last (Asks u t) = next (Open (Running last t (Update u))) (Ask (t .x))
-madeBy last (Narrows t e) = next (Open (Running last t (Between e))) (Ask (e .d))
-madeBy last (Stops o) = next (Over (Last last)) o
-
-abbrev pub madeOf : Float → Finished → Move → Next
-madeOf theta last m = madeBy last (testedOf theta (last .best .x) m)
-
-abbrev pub settledOf : Setup → Finished → Next
-settledOf s last = madeOf (s .options .params .theta) last (outlookOf s last)
-
 unfoldable pub wentOf : Setup → Finished → Then → Next
 wentOf s last (Go m) = madeOf (s .options .params .theta) last m
-wentOf s last (Close u) = settledOf s (closedOf last u)
+wentOf s last (Close u) = settledOf s u (last .start) (iterations (counted (last .iterations .0)))
+
+-- what an answer in an iteration leads to
+abbrev pub thenOf : Setup → Finished → Trial → Asked → Float → Float → Then
+thenOf s last t asked f g =
+    onwardOf (s .options .params .gamma) (last .bracket) t (leftOf (s .options .budget) asked) (comesOf (s .level) t asked f g)
+
+abbrev pub runningOf : Setup → Finished → Trial → Asked → Float → Float → Next
+runningOf s last t asked f g = wentOf s last (thenOf s last t asked f g)
+
+-- ---- an answer
 
 unfoldable pub reactOf : Setup → Waiting → Float → Float → Next
-reactOf s Low f g = next (Open (High (point (s .options .params .min) f g))) (Ask (s .options .params .max))
-reactOf s (High a) f g = next (Open (Start (bracket a (point (s .options .params .max) f g)))) (Ask (s .options .params .start))
-reactOf s (Start w) f g = settledOf s (openedOf w (point (s .options .params .start) f g))
-reactOf s (Running last t asked) f g =
-    wentOf s last
-    (onwardOf (s .options .params .gamma) (last .bracket) t (leftOf (s .options .budget) asked) (comesOf (s .level) t asked f g))
+reactOf s Low f g = asking (High (point (s .options .params .min) f g)) (s .options .params .max)
+reactOf s (High a) f g = asking (Start (bracket a (point (s .options .params .max) f g))) (s .options .params .start)
+reactOf s (Start w) f g = settledOf s w (point (s .options .params .start) f g) (iterations 0)
+reactOf s (Running last t asked) f g = runningOf s last t asked f g
 
 unfoldable pub keptOf : Waiting → Kept
 keptOf Low = NoneYet
@@ -160,7 +175,7 @@ stepTo s n to = record { search = record { setup = s; evaluations = n; stage = t
 unfoldable pub takenOf : Setup → Evaluations → Waiting → Float → Float → Step
 takenOf s n waiting f g =
     cond (answerFinite f g) (stepTo s (evaluations (counted (n .0))) (reactOf s waiting f g))
-    (stepTo s n (next (Over (keptOf waiting)) (Refused SuppliedNotFinite)))
+    (stepTo s n (ending (keptOf waiting) (Refused SuppliedNotFinite)))
 
 unfoldable pub answerBy : Search → Float → Float → Stage → Step
 answerBy s f g (Open waiting) = takenOf (s .setup) (s .evaluations) waiting f g
@@ -169,8 +184,10 @@ answerBy s f g (Over kept) = record { search = s; outcome = Refused AlreadyOver 
 abbrev pub answerOf : Search → Float → Float → Step
 answerOf s f g = answerBy s f g (s .stage)
 
+-- ---- a start
+
 abbrev pub fresh : Setup → Step
-fresh s = stepTo s (evaluations 0) (next (Open Low) (Ask (s .options .params .min)))
+fresh s = stepTo s (evaluations 0) (asking Low (s .options .params .min))
 
 abbrev pub startOf : Options → Float → Float → Started
 startOf o f0 s0 =

@@ -1,12 +1,11 @@
 -- What a state stands for in 01's rules: the search that is left. And what `start` and `answer` promise in the rules' terms.
-use Prim.Native.Nat.{ℕ, _-_}
+use Prim.Native.Nat.{_-_}
 use mathlib.Core.Path.{_≡_}
 use lib.Ieee.{Float}
 use Rattle.numbers.specs.Results.{Result, value, refused}
 use Rattle.outcomes.specs.Outcomes.{refusal, Told, ends, numberOf, told}
-use Rattle.outcomes.specs.Asking.{Search as Run, over, keeping, question, respond, shown, firstOf, onceTold}
+use Rattle.outcomes.specs.Asking.{Search as Rest, over, keeping, question, respond, shown, firstOf, onceTold}
 use Rattle.outcomes.specs.Counters.{counted}
-use Rattle.rules.specs.declared.Point.{Point}
 use Rattle.rules.specs.declared.Bracket.{Bracket}
 use Rattle.rules.specs.declared.Options.{Options}
 use Rattle.rules.specs.declared.Setup.{Setup}
@@ -51,21 +50,21 @@ report s = stageReport (s .stage)
 
 module _ (s : Setup) (fin : Finished) where
   -- L3, and then the verdict and what follows it
-  abbrev pub ended : Bracket → Run Report
+  abbrev pub ended : Bracket → Rest Report
   ended v = rounds s (s .options .limit - counted (fin .iterations .0)) v (fin .start) (counted (fin .iterations .0))
 
   -- how the iteration goes on from the update of a trial at c
-  unfoldable pub afterTrial : Rule → Float → Bracket → Run Report
+  unfoldable pub afterTrial : Rule → Float → Bracket → Rest Report
   afterTrial S1 c u = afterS1 s (keeping (lastOf fin)) (lastOf fin) (fin .bracket) c u ended
   afterTrial S4 c u = afterS4 s (keeping (lastOf fin)) (lastOf fin) (fin .bracket) u ended
   afterTrial L2 c u = ended u
 
-  abbrev pub onAsked : Trial → Asked → Float → Float → Run Report
+  abbrev pub onAsked : Trial → Asked → Float → Float → Rest Report
   onAsked t asked f g =
       U3 s (keeping (lastOf fin)) (lastOf fin) (leftOf (s .options .budget) asked) (comesOf (s .level) t asked f g) (afterTrial (t .rule) (t .x))
 
 -- what a finite answer leads to, and the step that is asked
-unfoldable pub onAnswer : Setup → Waiting → Float → Float → Run Report
+unfoldable pub onAnswer : Setup → Waiting → Float → Float → Rest Report
 onAnswer s Low f g = askHigh s (point (s .options .params .min) f g)
 onAnswer s (High a) f g = askStart s (record { a = a; b = point (s .options .params .max) f g })
 onAnswer s (Start w) f g = rounds s (s .options .limit) w (point (s .options .params .start) f g) 0
@@ -81,20 +80,20 @@ stepOf s (High a) = s .options .params .max
 stepOf s (Start w) = s .options .params .start
 stepOf s (Running fin t asked) = askedStep t asked
 
-unfoldable pub meaning : Setup → Stage → Run Report
+unfoldable pub meaning : Setup → Stage → Rest Report
 meaning s (Open waiting) = question answerFinite (keeping (keptReport (keptOf waiting))) (keptReport (keptOf waiting)) (stepOf s waiting) (onAnswer s waiting)
 meaning s (Over kept) = over (keptReport kept) (refusal 8)
 
-abbrev pub meant : Search → Run Report
+abbrev pub meant : Search → Rest Report
 meant s = meaning (s .setup) (s .stage)
 
 -- ---- `start`: the refusal's number, or the search that 01's rules are for the accepted setup
 
-abbrev pub startTold : Started → Result (Run Report)
+abbrev pub startTold : Started → Result (Rest Report)
 startTold (Began r) = value (meant (r .search))
 startTold (NoSearch k) = refused (numberOf k)
 
-abbrev pub begun : Result Setup → Result (Run Report)
+abbrev pub begun : Result Setup → Result (Rest Report)
 begun (value s) = value (search s)
 begun (refused n) = refused n
 

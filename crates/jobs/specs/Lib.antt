@@ -1,3 +1,2 @@
 pub mod Format
 pub mod Reader
-pub mod Start

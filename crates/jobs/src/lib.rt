@@ -1,10 +1,5 @@
 // 01's jobs: tagged fields in bytes, read as the parameters of a search over one of the sample curves.
 
-use curves::Curve;
-use curves::Known;
-use hagerzhang::Started;
-use hagerzhang::Step;
-use outcomes::Refusal;
 use rules::Options;
 use rules::Params;
 ghost use mathlib.Core.Path.{_≡_};
@@ -13,11 +8,6 @@ ghost use lib.ListN.{length, drop};
 ghost use Rattle.wire.specs.Wire.{pairOf, floatOf};
 ghost use Rattle.jobs.specs.Format.{said};
 ghost use Rattle.jobs.specs.Reader.{begins, found, behind, optionsAt, jobOf, readTold};
-ghost use Rattle.jobs.specs.Start.{startedOn, beginsBy, beginOf, openedTold};
-ghost use Rattle.numbers.specs.Results.{value};
-ghost use Rattle.floats.specs.Arithmetic.{0ᶠ};
-ghost use Rattle.curves.specs.Curves.{valueOf, slopeOf};
-ghost use Rattle.hagerzhang.specs.Machine.{startOf};
 
 pub struct Job {
     // the curve's number, as the job has it
@@ -29,15 +19,6 @@ pub enum Reading {
     Whole(Job),
     // 9
     Malformed,
-}
-
-// What a job begins: a search over a curve, which has asked its first step; or none.
-pub enum Opened {
-    Begun(Curve, Step),
-    // 2, 3 or 4
-    NoSearch(Refusal),
-    // 9
-    Unreadable,
 }
 
 // Where a field may stand: the place, its tag, and the length of its body.
@@ -106,7 +87,7 @@ fn options(
     requires { ⌜ (bounds ≤ length (now job)) × (start ≤ length (now job)) × (epsilon ≤ length (now job)) × (budget ≤ length (now job)) × (limit ≤ length (now job)) ⌝ }
     ensures { λ r. ⌜ r ≡ optionsAt (now (job .entry)) bounds start epsilon budget limit ⌝ }
 {
-    let d = decisions::defaults();
+    let d = parameters::defaults();
     let p = d.params;
     let min = number(job, Place(bounds, 2, 16), 0, p.min);
     let max = number(job, Place(bounds, 2, 16), 8, p.max);
@@ -150,37 +131,4 @@ pub fn read(job: &[u8]) -> Reading
         curve: wire::byte(&job[3..4], 0) as u32,
         options: options(job, bounds, start, epsilon, budget, limit),
     })
-}
-
-fn search_over(c: Curve, o: Options) -> Opened
-    ensures { λ r. ⌜ openedTold r ≡ startedOn c (startOf o (valueOf c 0ᶠ) (slopeOf c 0ᶠ)) ⌝ }
-{
-    match hagerzhang::start(o, c.value(0.0), c.slope(0.0)) {
-        Started::Began(t) => Opened::Begun(c, t),
-        Started::NoSearch(k) => Opened::NoSearch(k),
-    }
-}
-
-// Any number that is not finite (2) comes before the curve's number and the ranges (3), and these before epsilon_k and L (4).
-fn start(j: Job) -> Opened
-    ensures { λ r. ⌜ openedTold r ≡ beginsBy (value j) ⌝ }
-{
-    let o = j.options;
-    if !decisions::supplied_finite(o, 0.0, 0.0) {
-        return Opened::NoSearch(Refusal::SuppliedNotFinite);
-    }
-    match curves::numbered(j.curve) {
-        Known::Found(c) => search_over(c, o),
-        Known::Unknown(k) => Opened::NoSearch(k),
-    }
-}
-
-// The search of a job, for any bytes.
-pub fn begin(job: &[u8]) -> Opened
-    ensures { λ r. ⌜ openedTold r ≡ beginOf (now (job .entry)) ⌝ }
-{
-    match read(job) {
-        Reading::Whole(j) => start(j),
-        Reading::Malformed => Opened::Unreadable,
-    }
 }

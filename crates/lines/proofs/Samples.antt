@@ -1,5 +1,4 @@
 -- The four lines of 01's sample job, and a line of each other kind, worked out. Assumes nothing.
-use Prim.Native.Nat.{ℕ}
 use mathlib.Core.Path.{_≡_, refl}
 use lib.Ieee.{Float, binary64, ofBits, toBits}
 use Rattle.text.specs.Text.{bytes, decimalUpTo}

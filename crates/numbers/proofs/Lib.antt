@@ -1,4 +1,2 @@
 pub mod Bits
-pub mod Vectors
-pub mod PartialSums
 pub mod Determined

@@ -1,11 +1,8 @@
-// 01's number routines: finite test, absolute value, dot, scaled point. Any input gets an answer, and no caller owes anything.
+// 01's number routines: finite test and absolute value. Any input gets an answer, and no caller owes anything.
 
 ghost use mathlib.Core.Path.{_≡_};
-ghost use Prim.Native.Nat.{_<_};
-ghost use lib.ListN.{length};
 ghost use lib.Ieee.Scale.{finite};
-ghost use Rattle.numbers.specs.Numbers.{absOf, sized, allFinite, products, leftSum, moved, dotOf, pointOf, heldAfter};
-ghost use Rattle.numbers.specs.Told.{numberOf, dotTold, pointTold};
+ghost use Rattle.numbers.specs.Numbers.{bothFinite, absOf};
 
 // Whether x is neither a NaN nor an infinity.
 pub fn is_finite(x: f64) -> bool
@@ -13,6 +10,13 @@ pub fn is_finite(x: f64) -> bool
 {
     let inf = f64::from_bits(0x7ff0_0000_0000_0000);
     -inf < x && x < inf
+}
+
+// Whether neither x nor y is a NaN or an infinity.
+pub fn both_finite(x: f64, y: f64) -> bool
+    ensures { λ r. ⌜ r ≡ bothFinite x y ⌝ }
+{
+    is_finite(x) & is_finite(y)
 }
 
 // x with its sign bit cleared.
@@ -24,154 +28,4 @@ pub fn abs(x: f64) -> f64
     } else {
         x
     }
-}
-
-// Why vectors are refused, in the order in which the reasons are tried.
-pub enum Refusal {
-    // a length is 0 or above 256, or the lengths differ
-    Lengths,
-    // a number that was supplied is a NaN or an infinity
-    SuppliedNotFinite,
-    // the dot, or an element of the point, comes out a NaN or an infinity
-    ResultNotFinite,
-}
-
-impl Refusal {
-    // The number by which 01 knows the refusal.
-    pub fn number(self) -> u32
-        ensures { λ r. ⌜ r ≡ numberOf self ⌝ }
-    {
-        match self {
-            Refusal::Lengths => 1,
-            Refusal::SuppliedNotFinite => 2,
-            Refusal::ResultNotFinite => 4,
-        }
-    }
-}
-
-pub enum DotResult {
-    Value(f64),
-    Refused(Refusal),
-}
-
-pub enum PointResult {
-    // the buffer holds the point
-    Written,
-    // the buffer holds what it held
-    Untouched(Refusal),
-}
-
-// Whether a vector may have n elements.
-fn is_sized(n: usize) -> bool
-    ensures { λ r. ⌜ r ≡ sized n ⌝ }
-{
-    1 <= n && n <= 256
-}
-
-fn all_finite(xs: &[f64]) -> bool
-    ensures { λ r. ⌜ r ≡ allFinite (now (xs .entry)) ⌝ }
-{
-    let mut i = 0;
-    while i < xs.len() {
-        if !is_finite(xs[i]) {
-            return false;
-        }
-        i += 1;
-    }
-    true
-}
-
-fn left_sum(a: &[f64], b: &[f64]) -> f64
-    requires { ⌜ (0 < length (now a)) × (length (now a) ≡ length (now b)) ⌝ }
-    ensures { λ r. ⌜ r ≡ leftSum (products (now (a .entry)) (now (b .entry))) ⌝ }
-{
-    let mut s = a[0] * b[0];
-    let mut i = 1;
-    while i < a.len() {
-        s = s + a[i] * b[i];
-        i += 1;
-    }
-    s
-}
-
-// The sum of the products of a's elements with b's, added from the left.
-pub fn dot(a: &[f64], b: &[f64]) -> DotResult
-    ensures { λ r. ⌜ dotTold r ≡ dotOf (now (a .entry)) (now (b .entry)) ⌝ }
-{
-    let n = a.len();
-    if !is_sized(n) {
-        return DotResult::Refused(Refusal::Lengths);
-    }
-    if n != b.len() {
-        return DotResult::Refused(Refusal::Lengths);
-    }
-    if !all_finite(a) {
-        return DotResult::Refused(Refusal::SuppliedNotFinite);
-    }
-    if !all_finite(b) {
-        return DotResult::Refused(Refusal::SuppliedNotFinite);
-    }
-    let s = left_sum(a, b);
-    if is_finite(s) {
-        DotResult::Value(s)
-    } else {
-        DotResult::Refused(Refusal::ResultNotFinite)
-    }
-}
-
-// Whether each element of x0 + alpha * d is finite.
-fn stays_finite(x0: &[f64], alpha: f64, d: &[f64]) -> bool
-    requires { ⌜ length (now x0) ≡ length (now d) ⌝ }
-    ensures { λ r. ⌜ r ≡ allFinite (moved (now (x0 .entry)) alpha (now (d .entry))) ⌝ }
-{
-    let mut i = 0;
-    while i < x0.len() {
-        if !is_finite(x0[i] + alpha * d[i]) {
-            return false;
-        }
-        i += 1;
-    }
-    true
-}
-
-fn write_moved(x0: &[f64], alpha: f64, d: &[f64], out: &mut [f64])
-    requires { ⌜ (length (now x0) ≡ length (now d)) × (length (now x0) ≡ length (now out)) ⌝ }
-    ensures { λ _. ⌜ now (out .exit) ≡ moved (now (x0 .entry)) alpha (now (d .entry)) ⌝ }
-{
-    let mut i = 0;
-    while i < x0.len() {
-        out[i] = x0[i] + alpha * d[i];
-        i += 1;
-    }
-}
-
-// Writes x0 + alpha * d to out, once every element of it is known to be finite.
-pub fn point(x0: &[f64], alpha: f64, d: &[f64], out: &mut [f64]) -> PointResult
-    ensures { λ r. ⌜ (pointTold r (now (out .exit)) ≡ pointOf (now (x0 .entry)) alpha (now (d .entry)) (length (now (out .entry))))
-        × (now (out .exit) ≡ heldAfter (pointOf (now (x0 .entry)) alpha (now (d .entry)) (length (now (out .entry)))) (now (out .entry))) ⌝ }
-{
-    let n = x0.len();
-    if !is_sized(n) {
-        return PointResult::Untouched(Refusal::Lengths);
-    }
-    if n != d.len() {
-        return PointResult::Untouched(Refusal::Lengths);
-    }
-    if n != out.len() {
-        return PointResult::Untouched(Refusal::Lengths);
-    }
-    if !is_finite(alpha) {
-        return PointResult::Untouched(Refusal::SuppliedNotFinite);
-    }
-    if !all_finite(x0) {
-        return PointResult::Untouched(Refusal::SuppliedNotFinite);
-    }
-    if !all_finite(d) {
-        return PointResult::Untouched(Refusal::SuppliedNotFinite);
-    }
-    if !stays_finite(x0, alpha, d) {
-        return PointResult::Untouched(Refusal::ResultNotFinite);
-    }
-    write_moved(x0, alpha, d, out);
-    PointResult::Written
 }

@@ -1,6 +1,6 @@
 -- From one answer to any list: a machine each of whose steps is the rules' step tells what the rules tell, reports what they report, and counts what
 -- they accept, for every list of answers. Once for every search. Assumes nothing.
-use mathlib.Core.Path.{_≡_, refl, sym, ap, ap₂, _∙_}
+use mathlib.Core.Path.{_≡_, refl, ap, ap₂, _∙_}
 use mathlib.Core.Bool.{Bool, true, false, cond}
 use mathlib.Core.List.{List, [], _∷_}
 use Prim.Native.Nat.{ℕ, _+_, _<_}
@@ -10,7 +10,7 @@ use lib.Ieee.{Float}
 use borrow.Author.Tests.{lt-ltb}
 use Rattle.outcomes.specs.Outcomes.{Told}
 use Rattle.outcomes.specs.Counters.{counted}
-use Rattle.outcomes.specs.Asking.{Run, ask, end, Search, Over, Reply, respond, shown, reported, isOver, onceTold, outcomes, after, accepted, reached, played}
+use Rattle.outcomes.specs.Asking.{ask, end, Search, Over, Reply, respond, shown, reported, isOver, onceTold, outcomes, after, accepted, reached, played}
 
 module _ {K : Type 0} where
   responds : (r : Search K) (f g : Float) → respond (onceTold r) f g ≡ respond r f g

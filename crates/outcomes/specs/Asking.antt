@@ -72,18 +72,18 @@ module _ {K : Type 0} where
 
   -- 01: "Evaluations count every finite answer accepted": those given while the search asks that pass the test
   unfoldable pub accepted : (Float → Float → Bool) → Search K → List Reply → ℕ
-  accepted finite r [] = 0
-  accepted finite (end o) (y ∷ ys) = 0
-  accepted finite (ask k x then) (y ∷ ys) = cond (finite (y .0) (y .1)) 1 0 + accepted finite (then (y .0) (y .1)) ys
+  accepted isFinite r [] = 0
+  accepted isFinite (end o) (y ∷ ys) = 0
+  accepted isFinite (ask k x then) (y ∷ ys) = cond (isFinite (y .0) (y .1)) 1 0 + accepted isFinite (then (y .0) (y .1)) ys
 
   -- and those given while it asks that do not
   abbrev pub notFinite : (Float → Float → Bool) → Search K → List Reply → ℕ
-  notFinite finite r ys = accepted (λ f g. not (finite f g)) r ys
+  notFinite isFinite r ys = accepted (λ f g. not (isFinite f g)) r ys
 
 -- 01, refusal 2: a step is asked; an answer that is not finite, by the search's test, is refused
-module _ {K R : Type 0} (finite : Float → Float → Bool) (refuse : ℕ → R) (k : K) where
+module _ {K R : Type 0} (isFinite : Float → Float → Bool) (refuse : ℕ → R) (k : K) where
   abbrev pub question : Float → (Float → Float → Run K R) → Run K R
-  question x then = ask k x (λ f g. cond (finite f g) (then f g) (end (refuse 2)))
+  question x then = ask k x (λ f g. cond (isFinite f g) (then f g) (end (refuse 2)))
 
 -- ---- a machine with states S, of which `next` gives the next state and `says` what is told: the same for any list of answers
 module _ {S : Type 0} (next : S → Float → Float → S) where

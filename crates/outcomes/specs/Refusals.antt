@@ -1,4 +1,4 @@
--- 01's table "Numbers in, numbers refused", as the definitions of the crates above fill it: rows with their "given exactly when", in 01's order.
+-- 01's table "Numbers in, numbers refused", as the definitions of the crates above fill it: rows with their "Given exactly when", in 01's order.
 use Prim.Native.Nat.{ℕ}
 use mathlib.Core.Path.{_≡_}
 use mathlib.Core.Bool.{Bool, true, false, cond}

@@ -2,16 +2,14 @@
 -- turns as there is to tell (`over-in-time`). Assumes nothing.
 use mathlib.Core.Path.{_≡_, refl, sym, ap, _∙_, subst}
 use mathlib.Core.Bool.{Bool, true, false, cond}
-use mathlib.Core.List.{List, [], _∷_, _++_, append-nil, append-assoc}
-use Prim.Native.Nat.{ℕ, zero, suc, _+_, _-_, _≤_, _<_}
+use mathlib.Core.List.{List, [], _∷_, _++_, append-assoc}
+use Prim.Native.Nat.{ℕ, zero, suc, _+_, _≤_, _<_}
 use native.Mathlib.Omega.{arith}
 use lib.ListN.{length}
 use lib.Ieee.{Float}
-use borrow.Author.Tests.{lt-ltb}
 use Rattle.outcomes.specs.Outcomes.{asks, ends, told}
-use Rattle.outcomes.specs.Asking.{Search as Run, Over as Ended, ask, end, respond, shown, reported, onceTold}
-use Rattle.outcomes.specs.Counters.{counted}
-use Rattle.outcomes.proofs.Branches.{either, by-test}
+use Rattle.outcomes.specs.Asking.{Search as Rest, Over as Ended, ask, end, respond, shown, reported, onceTold}
+use Rattle.outcomes.proofs.Machines.{adds-one}
 use Rattle.outcomes.proofs.Ends.{Ends, at-ask}
 use Rattle.outcomes.proofs.Determined.{told-determined}
 use Rattle.outcomes.specs.declared.Outcome.{Outcome}
@@ -24,37 +22,21 @@ use Rattle.hagerzhang.specs.declared.Stage.{Stage}
 use Rattle.hagerzhang.specs.declared.Stage.the-variants.{Open, Over as OverStage}
 use Rattle.hagerzhang.specs.declared.Search.{Search}
 use Rattle.hagerzhang.specs.declared.Step.{Step}
-use Rattle.hagerzhang.specs.Machine.{takenOf, answerBy, answerOf}
-use Rattle.hagerzhang.specs.Meaning.{stageReport, report, meaning, meant}
+use Rattle.hagerzhang.specs.Machine.{answerBy, answerOf}
+use Rattle.hagerzhang.specs.Meaning.{report, meaning, meant}
+use Rattle.hagerzhang.proofs.Answering.{setup-kept, one-more-if-finite, reports}
 use Rattle.hagerzhang.proofs.Bridge.{follows}
 use Rattle.play.specs.declared.Played.{Played}
 use Rattle.play.specs.declared.Played.the-variants.{On, Over}
 use Rattle.play.specs.Telling.{Said, iterationsIn, telling, saidLine, textOf}
 use Rattle.play.specs.Playing.{saidOf, answeredBy, nextOf, saidIn, leftAfter, chunks, leftAfterChunks}
 
--- ---- what an answer leaves as it was, what it counts, and what a state reports
-setup-kept : (b : Search) (f g : Float) (stage : Stage) → answerBy b f g stage .search .setup ≡ b .setup
-unfolding answerBy takenOf
-setup-kept b f g (Open waiting) = either (λ (r : Step). r .search .setup) (answerFinite f g) _ _ (b .setup) refl refl
-setup-kept b f g (OverStage kept) = refl
-
-one-more : (a : Bool) (n : ℕ) → n < 4294967295 → cond a (counted n) n ≡ n + cond a 1 0
-unfolding counted
-one-more true n h = rw (lt-ltb n 4294967295 h)
-one-more false n h = omega arith
-
-counts-on : (b : Search) (f g : Float) (stage : Stage) (k : Report) (x : Float) (then : Float → Float → Run Report) → meaning (b .setup) stage ≡ ask k x then
+-- ---- what an answer to a search that asks counts
+counts-on : (b : Search) (f g : Float) (stage : Stage) (k : Report) (x : Float) (then : Float → Float → Rest Report) → meaning (b .setup) stage ≡ ask k x then
     → b .evaluations .0 < 4294967295 → answerBy b f g stage .search .evaluations .0 ≡ b .evaluations .0 + cond (answerFinite f g) 1 0
-unfolding answerBy takenOf meaning
-counts-on b f g (Open waiting) k x then e h =
-    by-test (λ (r : Step). r .search .evaluations .0) (answerFinite f g) _ _ (counted (b .evaluations .0)) (b .evaluations .0) refl refl
-    ∙ one-more (answerFinite f g) (b .evaluations .0) h
+unfolding meaning
+counts-on b f g (Open waiting) k x then e h = let z = adds-one (answerFinite f g) (b .evaluations .0) 0 _ h (one-more-if-finite b f g waiting) in omega arith
 counts-on b f g (OverStage kept) k x then e h = let z : _≡_ {A = ℕ} 0 1 = cc in absurd (omega arith)
-
-reports : (s : Setup) (stage : Stage) → stageReport stage ≡ reported (meaning s stage)
-unfolding meaning reported stageReport
-reports s (Open waiting) = refl
-reports s (OverStage kept) = refl
 
 -- ---- texts one after the other
 no-text : textOf [] ≡ []
@@ -68,7 +50,7 @@ text-append (s ∷ k) l = ap (λ (t : List ℕ). saidLine s ++ t) (text-append k
 
 -- ---- a step stands where a run of the rules stands that has made e evaluations and ends within m answers
 module _ (s : Setup) (fits : s .options .limit < 4294967296) (c : Curve) where
-  pub record Stands (e m : ℕ) (t : Step) (r : Run Report) : Type 0 where
+  pub record Stands (e m : ℕ) (t : Step) (r : Rest Report) : Type 0 where
     pub same-setup : t .search .setup ≡ s
     pub tells : told (t .outcome) ≡ shown r
     pub leaves : meant (t .search) ≡ onceTold r
@@ -79,7 +61,7 @@ module _ (s : Setup) (fits : s .options .limit < 4294967296) (c : Curve) where
   -- what a play has still to tell
   pub data Matches : Played → List Said → Type 0 where
     at-over : Matches Over []
-    at-step : {e m : ℕ} {t : Step} {r : Run Report} → Stands e m t r → Matches (On t) (telling c e r)
+    at-step : {e m : ℕ} {t : Step} {r : Rest Report} → Stands e m t r → Matches (On t) (telling c e r)
 
   -- one turn tells the first of it, and leaves the others
   record Turn (t : Step) (l : List Said) : Type 0 where
@@ -87,11 +69,11 @@ module _ (s : Setup) (fits : s .options .limit < 4294967296) (c : Curve) where
     first : l ≡ saidOf t ∷ others
     matches : Matches (nextOf c t) others
 
-  reported-by : (b : Search) (r : Run Report) → meant b ≡ r → iterationsIn (report b) ≡ iterationsIn (reported r)
-  reported-by b r e = ap iterationsIn (reports (b .setup) (b .stage) ∙ ap reported e)
+  reported-by : (b : Search) (r : Rest Report) → meant b ≡ r → iterationsIn (report b) ≡ iterationsIn (reported r)
+  reported-by b r e = ap iterationsIn (sym (reports (b .setup) (b .stage)) ∙ ap reported e)
 
   module _ (e m : ℕ) (t : Step) where
-    module _ (k : Report) (x : Float) (then : Float → Float → Run Report) (at : Stands e (suc m) t (ask k x then)) (more : (f g : Float) → Ends answerFinite m (then f g)) where
+    module _ (k : Report) (x : Float) (then : Float → Float → Rest Report) (at : Stands e (suc m) t (ask k x then)) (more : (f g : Float) → Ends answerFinite m (then f g)) where
       abbrev f : Float
       f = valueOf c x
 
@@ -180,7 +162,7 @@ module _ (s : Setup) (fits : s .options .limit < 4294967296) (c : Curve) where
         matches = subst (λ (p : Played). Matches p []) (sym (stops-at (t .outcome) is-told)) at-over;
       }
 
-  turn : (e m : ℕ) (t : Step) (r : Run Report) → Ends answerFinite m r → Stands e m t r → Turn t (telling c e r)
+  turn : (e m : ℕ) (t : Step) (r : Rest Report) → Ends answerFinite m r → Stands e m t r → Turn t (telling c e r)
   turn e m t (end o) w at = end-turn e m t o at
   turn e (suc m) t (ask k x then) (at-ask only more) at = asks-turn e m t k x then at more
 

@@ -5,13 +5,13 @@ use Prim.Native.Nat.{ℕ, zero, suc, _+_, _<_}
 use native.Mathlib.Omega.{arith}
 use lib.ListN.{length, length-append}
 use Rattle.numbers.specs.Results.{value}
-use Rattle.outcomes.specs.Asking.{Search as Run, ask, end, onceTold}
+use Rattle.outcomes.specs.Asking.{Search as Rest, ask, end, onceTold}
 use Rattle.rules.specs.declared.Setup.{Setup}
 use Rattle.rules.specs.Rules.{Report, search}
 use Rattle.curves.specs.declared.Curve.{Curve}
 use Rattle.hagerzhang.specs.declared.Step.{Step}
 use Rattle.hagerzhang.specs.Meaning.{meant}
-use Rattle.jobs.specs.Start.{beginOf}
+use Rattle.opening.specs.Start.{beginOf}
 use Rattle.play.specs.declared.Played.{Played}
 use Rattle.play.specs.declared.Played.the-variants.{On, Over}
 use Rattle.play.specs.Telling.{Said, telling}
@@ -32,19 +32,19 @@ pub record Playable (c : Curve) (p : Played) : Type 0 where
   pub matches : Matches setup fits c p outcomes
 
 -- the count does not depend on the evaluations before
-same-count : (c : Curve) (e d : ℕ) (r : Run Report) → length (telling c e r) ≡ length (telling c d r)
+same-count : (c : Curve) (e d : ℕ) (r : Rest Report) → length (telling c e r) ≡ length (telling c d r)
 unfolding telling
 same-count c e d (end o) = refl
 same-count c e d (ask k x then) = ap suc (same-count c _ _ (then _ _))
 
-rest-count : (c : Curve) (e : ℕ) (r : Run Report) → length (telling c 0 (onceTold r)) ≡ length (telling c e r)
+rest-count : (c : Curve) (e : ℕ) (r : Rest Report) → length (telling c 0 (onceTold r)) ≡ length (telling c e r)
 rest-count c e (end o) = unfold onceTold telling in refl
 rest-count c e (ask k x then) = unfold onceTold in same-count c 0 e (ask k x then)
 
 counted : (s : Setup) (fits : s .options .limit < 4294967296) (c : Curve) (p : Played) (l : List Said) → Matches s fits c p l → toTell c p ≡ length l
 unfolding toTell
 counted s fits c Over [] at-over = refl
-counted s fits c (On t) l (at-step {e} {r = r} at) = ap (λ (q : Run Report). length (telling c 0 q)) (at .leaves) ∙ rest-count c e r
+counted s fits c (On t) l (at-step {e} {r = r} at) = ap (λ (q : Rest Report). length (telling c 0 q)) (at .leaves) ∙ rest-count c e r
 
 says-one : (c : Curve) (n : ℕ) (t : Step) → 0 < n → 0 < length (saidIn n c (On t))
 unfolding saidIn

@@ -4,50 +4,32 @@ use mathlib.Core.Path.{_≡_, refl, sym, ap, _∙_, subst}
 use mathlib.Core.Bool.{Bool, true, false, _&&_}
 use mathlib.Core.List.{List}
 use Prim.Native.Nat.{ℕ, suc, _+_, _*_, _≤_, _<_, suc-le-suc}
-use native.Mathlib.Nat.{mul-le-mul-right}
 use native.Mathlib.Omega.{arith}
-use lib.Dec.{leb}
 use lib.ListN.{length}
 use lib.Ieee.Scale.{finite}
-use borrow.Author.Tests.{leb-true}
 use Rattle.numbers.specs.Results.{Result, value, refused, unless_refuse_else_}
-use Rattle.outcomes.specs.Asking.{Search as Run, ask, end, shown, onceTold}
-use Rattle.outcomes.proofs.Branches.{and-first, and-second}
+use Rattle.outcomes.specs.Asking.{Search as Rest, ask, end, shown, onceTold}
 use Rattle.outcomes.proofs.Ends.{Ends, at-end, at-ask}
-use Rattle.rules.specs.declared.Options.{Options}
 use Rattle.rules.specs.declared.Setup.{Setup}
-use Rattle.rules.specs.Parameters.{paramsFinite, deltaSigmaInRange, factorsInRange, boundsInRange, countsInRange, inRanges, epsilonK, levelOf, setupOf}
+use Rattle.rules.specs.Parameters.{paramsFinite, inRanges, epsilonK, levelOf, setupOf}
 use Rattle.rules.specs.Rules.{answerFinite, Report, search}
+use Rattle.rules.proofs.Ranges.{limit-fits as limit-in-range, most-answers}
 use Rattle.rules.proofs.Bounds.{search-within}
 use Rattle.curves.specs.declared.Curve.{Curve}
 use Rattle.hagerzhang.specs.declared.Step.{Step}
 use Rattle.hagerzhang.proofs.Bridge.{starts-whole}
 use Rattle.lines.specs.Lines.{refusedLine}
+use Rattle.hagerzhang.specs.Machine.{fresh}
 use Rattle.jobs.specs.declared.Job.{Job}
 use Rattle.jobs.specs.Reader.{jobOf}
-use Rattle.jobs.specs.Start.{hasCurve, curveOf, f0Of, s0Of, admittedOf, firstStep, beginsWith, beginsBy, beginOf}
+use Rattle.opening.specs.Start.{hasCurve, curveOf, f0Of, s0Of, admittedOf, beginsWith, beginsBy, beginOf}
 use Rattle.play.specs.declared.Played.the-variants.{On, Over}
 use Rattle.play.specs.Telling.{telling}
 use Rattle.play.specs.Playing.{leftAfter, chunks, leftAfterChunks}
 use Rattle.play.specs.Output.{searchText, jobText, outputOf}
 use Rattle.play.proofs.ByRules.{Stands, Matches, at-step, over-in-time, chunks-told}
 
--- ---- a setup that a job is given has its counts in range
-record InRange (o : Options) : Type 0 where
-  limit : o .limit ≤ 10000
-  budget : o .budget ≤ 1000
-
-in-range : (o : Options) → inRanges o ≡ true → InRange o
-in-range o h =
-    let n = o .limit in
-    let m = o .budget in
-    let counts : (leb 1 m && leb m 1000 && (leb 1 n && leb n 10000)) ≡ true =
-    and-second (deltaSigmaInRange (o .params) && factorsInRange (o .params) && boundsInRange (o .params)) (countsInRange o) h in
-    record {
-      limit = leb-true n 10000 (and-second (leb 1 n) (leb n 10000) (and-second (leb 1 m && leb m 1000) (leb 1 n && leb n 10000) counts));
-      budget = leb-true m 1000 (and-second (leb 1 m) (leb m 1000) (and-first (leb 1 m && leb m 1000) (leb 1 n && leb n 10000) counts));
-    }
-
+-- ---- a setup that a job is given is within 01's ranges
 admitted-ranges : (s : Setup) (a k b d : Bool) (z : Setup) → (unless a refuse 2 else unless k && b refuse 3 else unless d refuse 4 else value z) ≡ value s → (b ≡ true) × (z ≡ s)
 admitted-ranges s true true true true z e = (refl, cc)
 admitted-ranges s true true true false z e = let o : _≡_ {A = ℕ} 0 1 = cc in absurd (omega arith)
@@ -56,30 +38,24 @@ admitted-ranges s true false b d z e = let o : _≡_ {A = ℕ} 0 1 = cc in absur
 admitted-ranges s false k b d z e = let o : _≡_ {A = ℕ} 0 1 = cc in absurd (omega arith)
 
 module _ (j : Job) (s : Setup) (e : admittedOf j ≡ value s) where
-  ranges : InRange (s .options)
+  ranges : inRanges (s .options) ≡ true
   unfolding admittedOf
   ranges =
       let z = admitted-ranges s (paramsFinite (j .options .params)) (hasCurve j) (inRanges (j .options))
       (finite (epsilonK (j .options) (f0Of j)) && finite (levelOf (j .options) (f0Of j))) (setupOf (j .options) (f0Of j) (s0Of j)) e in
-      subst (λ (q : Setup). InRange (q .options)) (z .1) (in-range (j .options) (z .0))
+      subst (λ (q : Setup). inRanges (q .options) ≡ true) (z .1) (z .0)
 
   most : ℕ
   most = 3 + s .options .limit * (3 + 3 * s .options .budget)
 
   at-most : most ≤ 30030003
   unfolding most
-  at-most =
-      let r = ranges in
-      let l = r .limit in
-      let b = r .budget in
-      let few : 3 + 3 * s .options .budget ≤ 3003 = omega arith in
-      let one : s .options .limit * (3 + 3 * s .options .budget) ≤ 10000 * (3 + 3 * s .options .budget) = mul-le-mul-right (3 + 3 * s .options .budget) l in
-      omega arith
+  at-most = most-answers (s .options) ranges
 
   pub limit-fits : s .options .limit < 4294967296
-  limit-fits = let l = ranges .limit in omega arith
+  limit-fits = let l = limit-in-range (s .options) ranges in omega arith
 
-  stands-first : (c : Curve) → Stands s limit-fits c 0 most (firstStep s) (search s)
+  stands-first : (c : Curve) → Stands s limit-fits c 0 most (fresh s) (search s)
   unfolding most
   stands-first c = record {
     same-setup = refl;
@@ -102,7 +78,7 @@ pub record Plays (s : List ℕ) (c : Curve) (t : Step) : Type 0 where
 module _ (s : List ℕ) (c : Curve) (t : Step) where
   with-setup : (j : Job) → jobOf s ≡ value j → (a : Result Setup) → admittedOf j ≡ a → beginsWith (curveOf j) a ≡ value (c, t) → Plays s c t
   with-setup j is (value q) e h =
-      let pair : _≡_ {A = Curve × Step} (curveOf j, firstStep q) (c, t) = cc in
+      let pair : _≡_ {A = Curve × Step} (curveOf j, fresh q) (c, t) = cc in
       record {
         job = j;
         setup = q;
@@ -139,7 +115,7 @@ pub output-refused : (s : List ℕ) (n : ℕ) → beginOf s ≡ refused n → ou
 output-refused s n h = refused-job (jobOf s) n h
 
 -- ---- a search that ends within m answers has at most m + 1 outcomes to tell
-tells-few : (c : Curve) (e m : ℕ) (r : Run Report) → Ends answerFinite m r → length (telling c e r) ≤ suc m
+tells-few : (c : Curve) (e m : ℕ) (r : Rest Report) → Ends answerFinite m r → length (telling c e r) ≤ suc m
 unfolding telling
 tells-few c e m (end o) at-end = omega arith
 tells-few c e (suc m) (ask k x then) (at-ask only more) = suc-le-suc (tells-few c _ m _ (more _ _))

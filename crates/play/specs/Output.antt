@@ -9,7 +9,7 @@ use Rattle.curves.specs.declared.Curve.{Curve}
 use Rattle.lines.specs.Lines.{refusedLine}
 use Rattle.jobs.specs.declared.Job.{Job}
 use Rattle.jobs.specs.Reader.{jobOf}
-use Rattle.jobs.specs.Start.{curveOf, admittedOf}
+use Rattle.opening.specs.Start.{curveOf, admittedOf}
 use Rattle.play.specs.Telling.{telling, textOf}
 
 -- a search over a curve, or "`REFUSED n` alone"

@@ -1,4 +1,5 @@
 pub mod MarkedSums
+pub mod Ranges
 pub mod Unreachable
 pub mod Iterations
 pub mod StaysBracket

@@ -1,7 +1,7 @@
 -- 01: "The Rust's "unreachable point" error cannot occur here. This is proved." For a finite L and a point whose cost and slope are finite, the Rust's update,
 -- guard for guard, is 01's and no error (`never-unreachable`), and so is its loop (`loop-is-U3`); and a question hands on finite answers only (`only-finite`).
 -- And the best is one of the three: what stood there before never shows (`best-is-one`). From the order of finite floats. Assumes nothing.
-use mathlib.Core.Path.{_≡_, refl, sym, _∙_}
+use mathlib.Core.Path.{_≡_, refl}
 use mathlib.Core.Logic.{_⊎_, inl, inr}
 use mathlib.Core.Bool.{Bool, true, false, cond, _&&_, _||_, true≢false, false≢true}
 use mathlib.Core.Option.{Option, some, none}

@@ -1,11 +1,10 @@
 -- 01, "Parameters", and of "Numbers in, numbers refused" B and N; epsilon_k and L; and the refusals of a start, in 01's order.
-use Prim.Native.Nat.{ℕ}
 use mathlib.Core.Bool.{Bool, _&&_}
 use lib.Dec.{leb}
 use lib.Ieee.{Float, binary64, ofBits}
 use lib.Ieee.Scale.{finite}
 use Rattle.floats.specs.Arithmetic.{_⊕_, _⊗_, _<ᶠ_, _≤ᶠ_, 0ᶠ, ½ᶠ, 1ᶠ}
-use Rattle.numbers.specs.Results.{Result, value, refused, unless_refuse_else_}
+use Rattle.numbers.specs.Results.{Result, value, unless_refuse_else_}
 use Rattle.numbers.specs.Numbers.{absOf}
 use Rattle.rules.specs.declared.Params.{Params}
 use Rattle.rules.specs.declared.Options.{Options}
@@ -52,7 +51,7 @@ suppliedFinite o f0 s0 = paramsFinite (o .params) && finite f0 && finite s0
 abbrev pub deltaSigmaInRange : Params → Bool
 deltaSigmaInRange p = 0ᶠ <ᶠ p .delta && p .delta <ᶠ 1ᶠ && p .delta ≤ᶠ p .sigma && p .sigma <ᶠ 1ᶠ
 
--- "epsilon: >= 0. theta, gamma: in (0, 1). eta: > 0"
+-- "epsilon ..: >= 0. theta .., gamma ..: in (0, 1). eta ..: > 0"
 abbrev pub factorsInRange : Params → Bool
 factorsInRange p =
     0ᶠ ≤ᶠ p .epsilon && 0ᶠ <ᶠ p .theta && p .theta <ᶠ 1ᶠ && 0ᶠ <ᶠ p .gamma && p .gamma <ᶠ 1ᶠ && 0ᶠ <ᶠ p .eta

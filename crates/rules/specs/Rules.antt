@@ -1,7 +1,7 @@
 -- 01, "Hager-Zhang rules", line by line: each rule once, as a decision; then the flow over them as a run of questions and answers.
 -- A point is (x, f, g): step, cost and slope. A bracket is (a, b). L is the setup's level. The types are declared in src/lib.rt, with their cases: what an answer comes to
 -- is `To` a bracket, or `On` in U3 with its ends h and k; a further trial is `At` a step, or there is `Nothing`; a verdict `Holds`, or it `Fails`.
--- Evaluations are counted over the whole run: `accepted` of outcomes/specs/Asking.antt, with `answerFinite`.
+-- The marked sums M1 to M12 are proved of this text (proofs/MarkedSums.antt), and that the Rust's "unreachable point" cannot occur (proofs/Unreachable.antt).
 use Prim.Native.Nat.{ℕ, zero, suc, _+_}
 use mathlib.Core.Bool.{Bool, cond, _&&_, _||_}
 use lib.Ieee.{Float, binary64, ofBits}
@@ -10,7 +10,6 @@ use Rattle.floats.specs.Arithmetic.{_⊕_, _⊖_, _⊗_, _⊘_, _<ᶠ_, _≤ᶠ
 use Rattle.numbers.specs.Numbers.{absOf}
 use Rattle.outcomes.specs.Outcomes.{verdictWord, stop, limit}
 use Rattle.outcomes.specs.Asking.{Run, end, Search, over, keeping, question}
-use Rattle.outcomes.specs.declared.Verdict.{Verdict}
 use Rattle.outcomes.specs.declared.Verdict.the-variants.{Wolfe, Approximate}
 use Rattle.rules.specs.declared.Point.{Point}
 use Rattle.rules.specs.declared.Bracket.{Bracket}
@@ -38,7 +37,7 @@ answerFinite f g = finite f && finite g
 -- ---- "Update of (a, b) with c"
 
 -- U0: "c.x <= a.x or c.x >= b.x: unchanged". U1: "c.g >= 0 (minus zero too): (a, c)". U2: "c.g < 0, c.f <= L: (c, b)".
--- U3: "c.g < 0, c.f > L: ends h = a, k = c.x", and goes on.
+-- U3: "c.g < 0, c.f > L: ends h = a, k = c.x", and goes on. An answer that is not finite never comes here (`question`, refusal 2), so what is not >= 0 is < 0.
 unfoldable pub updatedOf : Float → Bracket → Point → Came
 updatedOf L w c =
     cond (c .x ≤ᶠ w .a .x || c .x ≥ᶠ w .b .x) (To w)
@@ -98,7 +97,7 @@ lowest p q r = p .f ≤ᶠ q .f && p .f ≤ᶠ r .f
 unfoldable pub bestOver : Point → Point → Point → Point → Point
 bestOver old a b c = cond (lowest c a b) c (cond (lowest b a c) b (cond (lowest a b c) a old))
 
--- 01 says nothing for the case that no test holds. With finite costs one always does (`best-is-one`), so the a in that place is never seen.
+-- 01 says nothing for the case that no test holds. With finite costs one always does (`best-is-one`, proofs/Unreachable.antt), so the a in that place is never seen.
 abbrev pub bestOf : Point → Point → Point → Point
 bestOf a b c = bestOver a a b c
 
@@ -117,7 +116,8 @@ approximateHolds s p =
 unfoldable pub judgedOf : Setup → Point → Judged
 judgedOf s p = cond (wolfeHolds s p) (Holds Wolfe) (cond (approximateHolds s p) (Holds Approximate) Fails)
 
--- ---- the flow. `kept`, of any type K, is what is reported meanwhile; a refusal n comes to `refuse n`; `then` goes on with what was reached
+-- ---- the flow. `kept`, of any type K, is what is reported meanwhile; a refusal n comes to `refuse n`; `then` goes on with what was reached. From outside, these rules
+-- take s, refuse and kept first: `iteration s refuse kept w then`.
 
 module _ {K R : Type 0} (s : Setup) (refuse : ℕ → R) (kept : K) where
   abbrev pub asking : Float → (Point → Run K R) → Run K R
@@ -149,7 +149,7 @@ module _ {K R : Type 0} (s : Setup) (refuse : ℕ → R) (kept : K) where
   further Nothing u then = then u
   further (At x) u then = trial x λ c. update u c then
 
-  -- L2 after S1 to S4 came to v
+  -- L2 after S1 to S4 came to v. "L3: keep the result": `then` has it
   unfoldable pub afterS4 : Bracket → Bracket → (Bracket → Run K R) → Run K R
   afterS4 w v then = further (L2 (s .options .params .gamma) w v) v then
 
@@ -171,7 +171,7 @@ pub record Last : Type 0 where
   pub best : Point
   pub iterations : ℕ
 
--- with `noneYet` no iteration is finished either
+-- with `noneYet` no iteration is finished either. Evaluations are not reported here: they are counted over the whole run, by `accepted` of outcomes/specs/Asking.antt
 pub data Report : Type 0 where
   noneYet : Report
   last : Last → Report

@@ -1,8 +1,17 @@
--- `backtracking::start` meets its contract. Assumes nothing.
-use borrow.Author.Needs.{needs}
-use Rattle.backtracking.proofs.Bridge.{starts}
+-- `backtracking::start` meets its contract: 2, then 3. Assumes nothing.
+use Rattle.outcomes.proofs.Branches.{not-by-call, not-not-by-call}
+use Rattle.backtracking.proofs.Bridge.{start-promised}
 use Rattle.backtracking.proofs.start.Statement.{statement}
 use Rattle.backtracking.proofs.start.Tie as tie
 
+returns : tie.Need-returns
+returns c = start-promised _ _ (rw (not-by-call _ _ (c .before .supplied-finite .ensures) (c .if1 .taken)))
+
+returns-2 : tie.Need-returns-2
+returns-2 c = start-promised _ _ (rw (not-not-by-call _ _ (c .before .before .before .supplied-finite .ensures) (c .before .before .if1 .left), not-by-call _ _ (c .before .in-ranges .ensures) (c .if2 .taken)))
+
+returns-3 : tie.Need-returns-3
+returns-3 c = start-promised _ _ (rw (not-not-by-call _ _ (c .before .before .before .before .supplied-finite .ensures) (c .before .before .before .if1 .left), not-not-by-call _ _ (c .before .before .in-ranges .ensures) (c .before .if2 .left), c .made .ensures))
+
 pub start-spec : {M : Type 1} → statement M
-start-spec = tie.close (tie.spec (λ c κs. search needs) (λ c. (c .begun .ensures, starts _ _ (c .begun .ensures))))
+start-spec = tie.close (tie.spec (λ c κs. tt) returns (λ c κs. tt) returns-2 (λ c κs. tt) returns-3)

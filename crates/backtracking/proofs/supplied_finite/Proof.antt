@@ -5,11 +5,5 @@ use Rattle.backtracking.proofs.supplied_finite.Tie as tie
 
 pub supplied-finite-spec : {M : Type 1} → statement M
 supplied-finite-spec =
-    tie.close
-    (tie.spec
-    (λ c κs. search needs)
-    (λ c κs. search needs)
-    (λ c κs. search needs)
-    (λ c κs. search needs)
-    (λ c κs. search needs)
+    tie.close (tie.spec (λ c κs. search needs) (λ c κs. search needs) (λ c κs. search needs) (λ c κs. search needs) (λ c κs. search needs)
     (λ c. rw (c .is-finite4 .ensures, c .before .is-finite3 .ensures, c .before .before .is-finite2 .ensures, c .before .before .before .is-finite .ensures, c .before .before .before .before .constants-finite .ensures)))

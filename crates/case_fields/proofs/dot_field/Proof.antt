@@ -26,13 +26,4 @@ returns-4 c =
     simp (le-leb _ _ (c .before .before .if1 .left), le-leb _ _ (c .before .if2 .left), ne-eqb _ _ (c .if3 .left))
 
 pub dot-field-spec : {M : Type 1} → statement M
-dot-field-spec =
-    tie.close
-    (tie.spec
-    returns
-    returns-2
-    (λ c. search needs)
-    (λ c. search needs)
-    (λ c. search needs)
-    returns-3
-    returns-4)
+dot-field-spec = tie.close (tie.spec returns returns-2 (λ c. search needs) (λ c. search needs) (λ c. search needs) returns-3 returns-4)

@@ -1,20 +1,17 @@
 -- `hagerzhang::answer` meets its contract: the next state is the bookkeeping's, and so the rules'. Assumes nothing.
-use borrow.Author.Needs.{needs}
-use Rattle.outcomes.proofs.Branches.{tests}
 use Rattle.hagerzhang.specs.Machine.{answerBy}
 use Rattle.hagerzhang.proofs.Bridge.{promised}
+use borrow.Author.Needs.{needs}
 use Rattle.hagerzhang.proofs.answer.Statement.{statement}
 use Rattle.hagerzhang.proofs.answer.Tie as tie
 
 returns : tie.Need-returns
 unfolding answerBy
-returns c = promised _ _ _ _ (search (tests, c .taken .ensures, c .before .before .stage .given .1))
+returns c = promised _ _ _ _ (rw (c .before .before .stage .given .1) (c .taken .ensures))
 
 returns-2 : tie.Need-returns-2
 unfolding answerBy
-returns-2 c =
-    let a = c .before .before .before .before .args in
-    promised (a .s) (a .f) (a .g) _ (rw (c .enum-told .given .1))
+returns-2 c = let a = c .before .before .args in promised (a .s) (a .f) (a .g) _ (rw (c .enum-told .given .1))
 
 pub answer-spec : {M : Type 1} → statement M
-answer-spec = tie.close (tie.spec (λ c. search needs) (λ c κs. search needs) (λ c. search needs) returns returns-2)
+answer-spec = tie.close (tie.spec (λ c. search needs) (λ c κs. tt) (λ c. search needs) returns returns-2)

@@ -3,34 +3,14 @@ use borrow.Author.Needs.{needs}
 use Rattle.lines.proofs.verdict.Statement.{statement}
 use Rattle.lines.proofs.verdict.Tie as tie
 
-returns : tie.Need-returns
-returns c =
-    rw (c .before .before .before .before .before .enum-told .given .1) (c .before .before .word .ensures)
-
-returns-2 : tie.Need-returns-2
-returns-2 c =
-    rw (c .before .before .before .before .before .enum-told2 .given .1) (c .before .before .word2 .ensures)
-
-returns-3 : tie.Need-returns-3
-returns-3 c =
-    rw (c .before .before .before .before .before .enum-told3 .given .1) (c .before .before .word3 .ensures)
-
 pub verdict-spec : {M : Type 1} → statement M
 verdict-spec =
     tie.close
     (tie.spec
+    (λ c. search needs) (λ c. search needs) (λ c κs. search needs) (λ c. search needs) (λ c. search needs) (λ c κs. search needs)
+    (λ c. search needs) (λ c. search needs) (λ c κs. search needs) (λ c. search needs)
+    (λ c. let w = c .before .before in rw (w .before .before .before .enum-told .given .1) (w .word .ensures))
     (λ c. search needs)
+    (λ c. let w = c .before .before in rw (w .before .before .before .enum-told2 .given .1) (w .word2 .ensures))
     (λ c. search needs)
-    (λ c κs. search needs)
-    (λ c. search needs)
-    (λ c. search needs)
-    (λ c κs. search needs)
-    (λ c. search needs)
-    (λ c. search needs)
-    (λ c κs. search needs)
-    (λ c. search needs)
-    returns
-    (λ c. search needs)
-    returns-2
-    (λ c. search needs)
-    returns-3)
+    (λ c. let w = c .before .before in rw (w .before .before .before .enum-told3 .given .1) (w .word3 .ensures)))

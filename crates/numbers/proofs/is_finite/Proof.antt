@@ -1,6 +1,6 @@
 -- `numbers::is_finite` meets its contract, by cases on the float: the constant is the infinity. Assumes nothing.
 use mathlib.Core.Path.{_≡_, refl, sym}
-use mathlib.Core.Bool.{true, false, true≢false, false≢true}
+use mathlib.Core.Bool.{true, false, false≢true}
 use lib.Ieee.{Float, nan, inf, fin, lt, neg, ofBits, nanBits}
 use lib.Ieee.Scale.{finite}
 use Rattle.numbers.proofs.is_finite.Statement.{statement}

@@ -23,5 +23,4 @@ returns-4 c = rw (c .before .before .w .given .1)
 
 pub while-open-spec : {M : Type 1} → statement M
 while-open-spec =
-    tie.close
-    (tie.spec (λ c. search needs) (λ c. search needs) (λ c. search needs) (λ c. search needs) returns returns-2 returns-3 returns-4)
+    tie.close (tie.spec (λ c. search needs) (λ c. search needs) (λ c. search needs) (λ c. search needs) returns returns-2 returns-3 returns-4)

@@ -1,7 +1,7 @@
 -- `search::main` meets its contract: what a job begins is a play that ends. Assumes nothing.
 use mathlib.Core.Path.{sym, ap, _∙_}
 use borrow.Author.Needs.{needs}
-use Rattle.jobs.specs.Start.{openedTold}
+use Rattle.opening.specs.Start.{openedTold}
 use Rattle.play.proofs.Ending.{begun-playable}
 use Rattle.search.proofs.main.Statement.{statement}
 use Rattle.search.proofs.main.Tie as tie
@@ -11,20 +11,6 @@ tell-requires c κs = begun-playable _ _ _ (sym (c .before .before .before .begi
 
 pub main-spec : {M : Type 1} → statement M
 main-spec =
-    tie.close
-    (tie.spec
-    (λ c. search needs)
-    (λ c κs. search needs)
-    (λ c. search needs)
-    (λ c. search needs)
-    (λ c κs. search needs)
-    (λ c. search needs)
-    tell-requires
-    (λ c. search needs)
-    (λ c κs. search needs)
-    (λ c κs. search needs)
-    (λ c. search needs)
-    (λ c κs. search needs)
-    (λ c. search needs)
-    (λ c. search needs)
-    (λ c. search needs))
+    tie.close (tie.spec (λ c. search needs) (λ c κs. search needs) (λ c. search needs) (λ c. search needs) (λ c κs. search needs) (λ c. search needs)
+    tell-requires (λ c. search needs) (λ c κs. search needs) (λ c κs. search needs) (λ c. search needs) (λ c κs. search needs) (λ c. search needs)
+    (λ c. search needs) (λ c. search needs))

@@ -23,14 +23,5 @@ loop-again c =
 
 pub tell-spec : {M : Type 1} → statement M
 tell-spec =
-    tie.close
-    (tie.spec
-    Inv-loop
-    μ-loop
-    (λ c. c .pre)
-    (λ c. search needs)
-    (λ c. search needs)
-    (λ c. search needs)
-    (λ c κs. search needs)
-    loop-less
+    tie.close (tie.spec Inv-loop μ-loop (λ c. c .pre) (λ c. search needs) (λ c. search needs) (λ c. search needs) (λ c κs. search needs) loop-less
     loop-again)

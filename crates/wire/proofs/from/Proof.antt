@@ -22,13 +22,6 @@ none-left s at h =
 
 pub from-spec : {M : Type 1} → statement M
 from-spec =
-    tie.close
-    (tie.spec
-    (λ c. search needs)
-    (λ c. search needs)
-    (λ c. search needs)
-    (λ c. rest-whole (now (c .before .before .args .s)) (c .before .before .args .at))
-    (λ c. search needs)
-    (λ c. search needs)
-    (λ c. search needs)
+    tie.close (tie.spec (λ c. search needs) (λ c. search needs) (λ c. search needs)
+    (λ c. rest-whole (now (c .before .before .args .s)) (c .before .before .args .at)) (λ c. search needs) (λ c. search needs) (λ c. search needs)
     (λ c. none-left (now (c .before .before .args .s)) (c .before .before .args .at) (omega arith)))

@@ -1,0 +1,24 @@
+-- `bracketing::updated` meets its contract. Assumes nothing.
+use Rattle.outcomes.proofs.Branches.{tests}
+use Rattle.rules.specs.Rules.{updatedOf}
+use Rattle.bracketing.proofs.updated.Statement.{statement}
+use Rattle.bracketing.proofs.updated.Tie as tie
+
+returns : tie.Need-returns
+unfolding updatedOf
+returns c = search tests
+
+returns-2 : tie.Need-returns-2
+unfolding updatedOf
+returns-2 c = search tests
+
+returns-3 : tie.Need-returns-3
+unfolding updatedOf
+returns-3 c = search tests
+
+returns-4 : tie.Need-returns-4
+unfolding updatedOf
+returns-4 c = search tests
+
+pub updated-spec : {M : Type 1} → statement M
+updated-spec = tie.close (tie.spec returns returns-2 returns-3 returns-4)

@@ -1,0 +1,108 @@
+// The search at the desk: how it starts, what an answer comes to, and the lines that close its case.
+
+use backtracking::Backtracking;
+use case_bodies::Reply;
+use hagerzhang::Search;
+use outcomes::Evaluations;
+use outcomes::Iterations;
+use outcomes::Outcome;
+use outcomes::Refusal;
+
+pub(crate) enum Seat {
+    // before the first case, and after a dot or a point: there is none, and no answer may come
+    Free,
+    // its start was refused
+    NoSearch,
+    HagerZhang(Search),
+    Backtracks(Backtracking),
+}
+
+pub(crate) fn searching(seat: Seat) -> bool {
+    match seat {
+        Seat::Free => false,
+        Seat::NoSearch => true,
+        Seat::HagerZhang(_) => true,
+        Seat::Backtracks(_) => true,
+    }
+}
+
+// What a start or an answer comes to, with the counts that its line shows.
+pub(crate) struct Told {
+    pub(crate) seat: Seat,
+    pub(crate) outcome: Outcome,
+    pub(crate) evaluations: Evaluations,
+    pub(crate) iterations: Iterations,
+}
+
+fn refused(r: Refusal) -> Told {
+    Told {
+        seat: Seat::NoSearch,
+        outcome: Outcome::Refused(r),
+        evaluations: Evaluations(0),
+        iterations: Iterations(0),
+    }
+}
+
+fn from_hager_zhang(step: hagerzhang::Step) -> Told {
+    let outcome = step.outcome;
+    let s = step.search;
+    let stage = s.stage;
+    let evaluations = s.evaluations;
+    Told {
+        seat: Seat::HagerZhang(s),
+        outcome,
+        evaluations,
+        iterations: closing_lines::iterations(stage),
+    }
+}
+
+fn from_backtracking(step: backtracking::Step) -> Told {
+    let outcome = step.outcome;
+    let s = step.search;
+    let evaluations = s.evaluations;
+    let iterations = s.iterations;
+    Told {
+        seat: Seat::Backtracks(s),
+        outcome,
+        evaluations,
+        iterations,
+    }
+}
+
+pub(crate) fn hager_zhang(body: &[u8]) -> Told {
+    let b = case_bodies::hager_zhang(body);
+    match hagerzhang::start(b.options, b.f0, b.s0) {
+        hagerzhang::Started::Began(step) => from_hager_zhang(step),
+        hagerzhang::Started::NoSearch(r) => refused(r),
+    }
+}
+
+pub(crate) fn backtracks(body: &[u8]) -> Told {
+    match backtracking::start(case_bodies::backtracking(body)) {
+        backtracking::Started::Began(step) => from_backtracking(step),
+        backtracking::Started::NoSearch(r) => refused(r),
+    }
+}
+
+// An answer. Where the start was refused there is nobody else to refuse it; where there is no case the field is malformed, and never comes here.
+pub(crate) fn answered(seat: Seat, y: Reply) -> Told {
+    match seat {
+        Seat::Free => refused(Refusal::AlreadyOver),
+        Seat::NoSearch => refused(Refusal::AlreadyOver),
+        Seat::HagerZhang(s) => from_hager_zhang(hagerzhang::answer(s, y.cost, y.slope)),
+        Seat::Backtracks(s) => from_backtracking(backtracking::answer(s, y.cost, y.slope)),
+    }
+}
+
+// The closing lines.
+pub(crate) fn closed(out: &mut [u8], at: usize, seat: Seat) -> usize {
+    match seat {
+        Seat::Free => at,
+        Seat::NoSearch => closing_lines::none(out, at, Evaluations(0), Iterations(0)),
+        Seat::HagerZhang(s) => {
+            let stage = s.stage;
+            closing_lines::closing(out, at, stage, s.evaluations)
+        }
+        Seat::Backtracks(s) => closing_lines::none(out, at, s.evaluations, s.iterations),
+    }
+}

@@ -1,7 +1,0 @@
--- `conditions::both_finite` meets its contract. Assumes nothing.
-use borrow.Author.Needs.{needs}
-use Rattle.conditions.proofs.both_finite.Statement.{statement}
-use Rattle.conditions.proofs.both_finite.Tie as tie
-
-pub both-finite-spec : {M : Type 1} → statement M
-both-finite-spec = tie.close (tie.spec (λ c κs. search needs) (λ c κs. search needs) (λ c. rw (c .is-finite2 .ensures, c .before .is-finite .ensures)))

@@ -1,0 +1,122 @@
+// The end of the start or of an iteration, and a move: tested and made.
+
+use super::Asked;
+use super::Ends;
+use super::Finished;
+use super::Kept;
+use super::Move;
+use super::Next;
+use super::Rule;
+use super::Trial;
+use super::Waiting;
+use super::asks;
+use super::over;
+use outcomes::Iterations;
+use outcomes::Outcome;
+use outcomes::Refusal;
+use rules::Bracket;
+use rules::Judged;
+use rules::Point;
+use rules::Setup;
+ghost use mathlib.Core.Path.{_≡_};
+ghost use Rattle.hagerzhang.specs.Machine.{tryAt, settledOf, outlookOf, madeOf, testedOf, attemptOf, probeOf, refusedBy};
+
+// (3) The start or an iteration is finished: L3, best, and what is due then.
+pub(crate) fn settled(s: Setup, bracket: Bracket, start: Point, iterations: Iterations) -> Next
+    ensures { λ r. ⌜ r ≡ settledOf s bracket start iterations ⌝ }
+{
+    let best = verdicts::best(bracket.a, bracket.b, start);
+    let last = Finished {
+        bracket,
+        start,
+        best,
+        iterations,
+    };
+    made(s.options.params.theta, last, outlook(s, last))
+}
+
+// The verdict, then the limit, and only then S1 of the next iteration.
+fn outlook(s: Setup, last: Finished) -> Move
+    ensures { λ r. ⌜ r ≡ outlookOf s last ⌝ }
+{
+    let w = last.bracket;
+    match verdicts::judge(s, last.best) {
+        Judged::Holds(v) => Move::Stop(v),
+        Judged::Fails => {
+            if s.options.limit <= last.iterations.0 {
+                return Move::Limit;
+            }
+            tries(w, Rule::S1, bracketing::secant(w.a, w.b))
+        }
+    }
+}
+
+pub(crate) fn tries(u: Bracket, rule: Rule, x: f64) -> Move
+    ensures { λ r. ⌜ r ≡ tryAt u rule x ⌝ }
+{
+    Move::Try(u, Trial { rule, x })
+}
+
+// (5) The next state, and what is said. An end keeps what the last finished iteration left.
+pub(crate) fn made(theta: f64, last: Finished, m: Move) -> Next
+    ensures { λ r. ⌜ r ≡ madeOf theta last m ⌝ }
+{
+    match test(theta, last.best.x, m) {
+        Tested::Try(u, t) => asks(Waiting::Running(last, t, Asked::Update(u)), t.x),
+        Tested::Narrow(t, e) => asks(Waiting::Running(last, t, Asked::Between(e)), e.d),
+        Tested::End(outcome) => over(Kept::Last(last), outcome),
+    }
+}
+
+// A move that was tested: it is asked, or the search is over.
+enum Tested {
+    Try(Bracket, Trial),
+    Narrow(Trial, Ends),
+    End(Outcome),
+}
+
+// (4) What is due is tested: 5; 6, 5, 7.
+fn test(theta: f64, best: f64, m: Move) -> Tested
+    ensures { λ r. ⌜ r ≡ testedOf theta best m ⌝ }
+{
+    match m {
+        Move::Try(u, t) => attempt(u, t),
+        Move::Narrow(t, h, k, left) => probe(theta, t, h, k, left),
+        Move::Stop(v) => Tested::End(Outcome::Stop(v, best)),
+        Move::Limit => Tested::End(Outcome::Limit(best)),
+    }
+}
+
+// A trial is asked where its step is finite (5).
+fn attempt(u: Bracket, t: Trial) -> Tested
+    ensures { λ r. ⌜ r ≡ attemptOf u t ⌝ }
+{
+    if numbers::is_finite(t.x) {
+        return Tested::Try(u, t);
+    }
+    refused(Refusal::StepNotFinite)
+}
+
+// U3's next step is asked where an answer may still come (6) and it is finite (5) and strictly between the ends (7).
+fn probe(theta: f64, t: Trial, h: Point, k: f64, left: u32) -> Tested
+    ensures { λ r. ⌜ r ≡ probeOf theta t h k left ⌝ }
+{
+    if left == 0 {
+        return refused(Refusal::BudgetSpent);
+    }
+    let d = bracketing::middle(theta, h, k);
+    if !numbers::is_finite(d) {
+        return refused(Refusal::StepNotFinite);
+    }
+    if (h.x < d) & (d < k) {
+        let left = left - 1;
+        return Tested::Narrow(t, Ends { h, k, d, left });
+    }
+    refused(Refusal::StepNotBetween)
+}
+
+fn refused(r: Refusal) -> Tested
+    ensures { λ t. ⌜ t ≡ refusedBy r ⌝ }
+{
+    Tested::End(Outcome::Refused(r))
+}

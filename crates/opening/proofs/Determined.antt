@@ -1,0 +1,38 @@
+-- Any two answers that the contract of `begin` allows are identical. Assumes nothing.
+use mathlib.Core.Path.{_≡_, refl, ap}
+use mathlib.Core.Bool.{cond}
+use lib.Dec.{eqb}
+use Rattle.numbers.specs.Results.{Result, value, refused}
+use Rattle.numbers.proofs.Determined.{determined}
+use Rattle.outcomes.proofs.Determined.{withNumber, number-back}
+use Rattle.outcomes.specs.Outcomes.{numberOf}
+use Rattle.outcomes.specs.declared.Refusal.{Refusal}
+use Rattle.outcomes.specs.declared.Refusal.the-variants.{SuppliedNotFinite, OutOfRange, ResultNotFinite, StepNotFinite, BudgetSpent, StepNotBetween, AlreadyOver}
+use Rattle.curves.specs.declared.Curve.{Curve}
+use Rattle.hagerzhang.specs.declared.Step.{Step}
+use Rattle.opening.specs.declared.Opened.{Opened}
+use Rattle.opening.specs.declared.Opened.the-variants.{Begun, NoSearch, Unreadable}
+use Rattle.opening.specs.Start.{openedTold}
+
+opens : Result (Curve × Step) → Opened
+opens (value p) = Begun (p .0) (p .1)
+opens (refused n) = cond (eqb n 9) Unreadable (NoSearch (withNumber n))
+
+-- no refusal of a search has 9's number
+not-nine : (k : Refusal) (a b : Opened) → cond (eqb (numberOf k) 9) a b ≡ b
+not-nine SuppliedNotFinite a b = refl
+not-nine OutOfRange a b = refl
+not-nine ResultNotFinite a b = refl
+not-nine StepNotFinite a b = refl
+not-nine BudgetSpent a b = refl
+not-nine StepNotBetween a b = refl
+not-nine AlreadyOver a b = refl
+
+opens-back : (r : Opened) → opens (openedTold r) ≡ r
+unfolding opens
+opens-back (Begun c t) = refl
+opens-back (NoSearch k) = rw (not-nine k _ _) (ap NoSearch (number-back k))
+opens-back Unreadable = refl
+
+pub begin-determined : (r q : Opened) → openedTold r ≡ openedTold q → r ≡ q
+begin-determined = determined openedTold opens opens-back

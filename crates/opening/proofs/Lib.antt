@@ -1,0 +1,3 @@
+pub mod AtZero
+pub mod Refusals
+pub mod Determined
