@@ -6,4 +6,5 @@ pub mod StaysBracket
 pub mod EachIteration
 pub mod Along
 pub mod Bounds
+pub mod Budget
 pub mod Demand3
