@@ -1,4 +1,4 @@
--- 01's table of refusals for backtracking: the rows of a start, and of an answer to any state, each with its "given exactly when", in 01's order; and what a refusal
+-- 01's table of refusals for backtracking: the rows of a start, and of an answer to any state, each with its "Given exactly when", in 01's order; and what a refusal
 -- leaves. proofs/BacktrackingRefusals.antt shows that the machine refuses by exactly these.
 use Prim.Native.Nat.{ℕ}
 use mathlib.Core.Bool.{Bool, true, false, cond, not, _||_}
