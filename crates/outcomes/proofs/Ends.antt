@@ -9,13 +9,13 @@ use native.Mathlib.Omega.{arith}
 use lib.ListN.{length}
 use lib.Ieee.{Float}
 use Rattle.outcomes.proofs.Machines.{none-more}
-use Rattle.outcomes.specs.Outcomes.{refusal}
+use Rattle.outcomes.specs.Outcomes.{refusal, answerNotFinite}
 use Rattle.outcomes.specs.Asking.{ask, end, Search, Over, over, keeping, question, Reply, respond, reported, isOver, after, accepted, notFinite}
 
 pub data Ends {K : Type 0} (finite : Float → Float → Bool) : ℕ → Search K → Type 0 where
   at-end : {n : ℕ} {o : Over K} → Ends finite n (end o)
   at-ask : {n : ℕ} {k : K} {x : Float} {then : Float → Float → Search K}
-      → ((f g : Float) → finite f g ≡ false → then f g ≡ over k (refusal 2)) → ((f g : Float) → Ends finite n (then f g)) → Ends finite (suc n) (ask k x then)
+      → ((f g : Float) → finite f g ≡ false → then f g ≡ over k (refusal (answerNotFinite f g))) → ((f g : Float) → Ends finite n (then f g)) → Ends finite (suc n) (ask k x then)
 
 one-at-most : (b : Bool) (m n : ℕ) → m ≤ n → cond b 1 0 + m ≤ suc n
 one-at-most true m n h = omega arith
@@ -38,7 +38,7 @@ module _ {K : Type 0} {finite : Float → Float → Bool} where
   ends-if false h k = k
 
   pub question-ends : {n : ℕ} (k : K) (x : Float) (then : Float → Float → Search K) → ((f g : Float) → Ends finite n (then f g)) → Ends finite (suc n) (question finite (keeping k) k x then)
-  question-ends k x then e = at-ask {k = k} {then = λ f g. cond (finite f g) (then f g) (over k (refusal 2))} (λ f g u. rw u) (λ f g. ends-if (finite f g) (e f g) at-end)
+  question-ends k x then e = at-ask {k = k} {then = λ f g. cond (finite f g) (then f g) (over k (refusal (answerNotFinite f g)))} (λ f g u. rw u) (λ f g. ends-if (finite f g) (e f g) at-end)
 
   pub ends-over : {n : ℕ} {r : Search K} → Ends finite n r → (ys : List Reply) → n ≤ length ys → isOver (after r ys) ≡ true
   unfolding isOver after respond
@@ -57,7 +57,7 @@ module _ {K : Type 0} {finite : Float → Float → Bool} where
   -- ---- an answer that is not finite
 
   pub non-finite-last : {n : ℕ} {r : Search K} → Ends finite n r → (ys : List Reply) (f g : Float) → isOver (after r ys) ≡ false → finite f g ≡ false
-      → respond (after r ys) f g ≡ over (reported (after r ys)) (refusal 2)
+      → respond (after r ys) f g ≡ over (reported (after r ys)) (refusal (answerNotFinite f g))
   unfolding isOver after respond reported
   non-finite-last (at-end {o = o}) ys f g asking u = absurd (true≢false (sym (stays-over o ys) ∙ asking))
   non-finite-last (at-ask v e) [] f g asking u = v f g u

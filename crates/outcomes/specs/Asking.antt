@@ -5,27 +5,27 @@ use mathlib.Core.Bool.{Bool, true, false, cond, not}
 use mathlib.Core.List.{List, [], _∷_}
 use lib.Ieee.{Float}
 use Rattle.numbers.specs.Results.{Result, value, refused}
-use Rattle.outcomes.specs.Outcomes.{Ending, refusal, Told, asks, ends}
+use Rattle.outcomes.specs.Outcomes.{Ending, refusal, Told, asks, ends, Why, answerNotFinite, alreadyOver, numbered}
 
 -- K is what is reported while an answer is awaited, R what the run comes to
 pub data Run (K R : Type 0) : Type 0 where
   ask : K → Float → (Float → Float → Run K R) → Run K R
   end : R → Run K R
 
--- a whole search: at its end it keeps what it then reports, and says how it ended
+-- a whole search: at its end it keeps what it then reports, and says how it ended; a refusal carries its reason
 pub record Over (K : Type 0) : Type 0 where
   pub keeps : K
-  pub by : Ending
+  pub by : Ending Why
 
 abbrev pub Search : Type 0 → Type 0
 Search K = Run K (Over K)
 
-abbrev pub over : {K : Type 0} → K → Ending → Search K
+abbrev pub over : {K : Type 0} → K → Ending Why → Search K
 over k e = end (record { keeps = k; by = e })
 
--- over by refusal n, keeping what was reported
-abbrev pub keeping : {K : Type 0} → K → ℕ → Over K
-keeping k n = record { keeps = k; by = refusal n }
+-- over by a refusal, keeping what was reported
+abbrev pub keeping : {K : Type 0} → K → Why → Over K
+keeping k why = record { keeps = k; by = refusal why }
 
 -- an answer: cost and slope
 abbrev pub Reply : Type 0
@@ -35,12 +35,12 @@ module _ {K : Type 0} where
   -- 01, refusal 8: a search that is over refuses whatever is said to it, and reports what it did ("state unchanged")
   unfoldable pub respond : Search K → Float → Float → Search K
   respond (ask k x then) f g = then f g
-  respond (end o) f g = over (o .keeps) (refusal 8)
+  respond (end o) f g = over (o .keeps) (refusal alreadyOver)
 
-  -- what a search tells when it has come here, and what it reports
+  -- what a search tells when it has come here, a refusal by its number, and what it reports
   unfoldable pub shown : Search K → Told
   shown (ask k x then) = asks x
-  shown (end o) = ends (o .by)
+  shown (end o) = ends (numbered (o .by))
 
   unfoldable pub reported : Search K → K
   reported (ask k x then) = k
@@ -53,7 +53,7 @@ module _ {K : Type 0} where
   -- what is left of a search once it has told its outcome: where it ended, it refuses whatever is said to it (8). A state of the machine stands for this
   unfoldable pub onceTold : Search K → Search K
   onceTold (ask k x then) = ask k x then
-  onceTold (end o) = over (o .keeps) (refusal 8)
+  onceTold (end o) = over (o .keeps) (refusal alreadyOver)
 
   -- what a start tells: the first step, or the refusal
   abbrev pub firstOf : Result (Search K) → Told
@@ -81,9 +81,9 @@ module _ {K : Type 0} where
   notFinite isFinite r ys = accepted (λ f g. not (isFinite f g)) r ys
 
 -- 01, refusal 2: a step is asked; an answer that is not finite, by the search's test, is refused
-module _ {K R : Type 0} (isFinite : Float → Float → Bool) (refuse : ℕ → R) (k : K) where
+module _ {K R : Type 0} (isFinite : Float → Float → Bool) (refuse : Why → R) (k : K) where
   abbrev pub question : Float → (Float → Float → Run K R) → Run K R
-  question x then = ask k x (λ f g. cond (isFinite f g) (then f g) (end (refuse 2)))
+  question x then = ask k x (λ f g. cond (isFinite f g) (then f g) (end (refuse (answerNotFinite f g))))
 
 -- ---- a machine with states S, of which `next` gives the next state and `says` what is told: the same for any list of answers
 module _ {S : Type 0} (next : S → Float → Float → S) where

@@ -5,11 +5,8 @@ use mathlib.Core.Bool.{Bool, true, false, cond}
 use mathlib.Core.List.{List, [], _∷_}
 use mathlib.Core.Option.{Option, none, some}
 use lib.Dec.{eqb}
+use Rattle.numbers.specs.Results.{Result, value, refused, Row}
 use Rattle.outcomes.specs.Outcomes.{stop, limit, refusal, Told, asks, ends}
-
--- a row: the number, and whether its condition holds
-abbrev pub Row : Type 0
-Row = ℕ × Bool
 
 -- "8 before all; then 1, 9, 2, 3, 4 in that order"; "6 comes before 5 and 7; 5 comes before 7"
 abbrev pub order : List ℕ
@@ -30,6 +27,11 @@ inOrder (n ∷ numbers) (r ∷ rows) = cond (eqb n (r .0)) (inOrder numbers rows
 pub record Table (number : Option ℕ) (rows : List Row) : Type 0 where
   pub exactly : number ≡ given rows
   pub ordered : inOrder order rows ≡ true
+
+-- the number of a result that is a refusal
+abbrev pub refusedBy : {A : Type 0} → Result A → Option ℕ
+refusedBy (value a) = none
+refusedBy (refused n) = some n
 
 -- the number in what is told, where that is a refusal
 abbrev pub refusalIn : Told → Option ℕ
