@@ -3,3 +3,4 @@ pub mod Ends
 pub mod Machines
 pub mod Determined
 pub mod Refusals
+pub mod Apart

@@ -1,30 +1,106 @@
--- Demand 3 for every list of answers, said of each finished iteration: `each-iteration` without a premise (where each end came from, and how many answers it took),
--- `bracket-stays` and `bracket-narrows` under demand 3's three facts of the answered ends; and the counts. About 01's rules; the machine reports what they report.
+-- Demand 3, and the refusals of a running search, for every list of answers: `each-iteration` without a premise (where each end came from, and how many
+-- answers it took), `bracket-stays` and `bracket-narrows` under demand 3's three facts of the answered ends; the counts; why each step is asked and
+-- each search ended (`asks`, `ends`); that all reported numbers are finite. About 01's rules; the machine reports what they report.
 -- Assumes nothing.
-use mathlib.Core.Path.{_≡_, refl, ap, subst}
-use mathlib.Core.Bool.{Bool, true, false, cond}
+use mathlib.Core.Path.{_≡_, refl, sym, ap, _∙_, subst}
+use mathlib.Core.Bool.{Bool, true, false, cond, true≢false}
 use mathlib.Core.List.{List, [], _∷_}
-use Prim.Native.Nat.{ℕ, _+_, _*_, _≤_}
+use mathlib.Core.Option.{some}
+use Prim.Native.Nat.{ℕ, suc, _+_, _*_, _≤_}
 use native.Mathlib.Omega.{arith}
 use lib.ListN.{length}
 use lib.Ieee.{Float}
-use Rattle.floats.specs.Arithmetic.{_<ᶠ_, _≤ᶠ_, _≥ᶠ_, 0ᶠ}
-use Rattle.outcomes.specs.Outcomes.{refusal}
-use Rattle.outcomes.specs.Asking.{Search, end, Over, over, Reply, respond, reported, after}
+use lib.Ieee.Scale.{finite}
+use Rattle.outcomes.specs.Outcomes.{
+  Ending,
+  stop,
+  limit,
+  refusal,
+  Why,
+  answerNotFinite,
+  stepNotFinite,
+  budgetSpent,
+  stepNotBetween,
+  alreadyOver,
+  unreachable,
+  asks as asking,
+}
+use Rattle.outcomes.specs.Asking.{Search, ask, end, Over, over, Reply, respond, shown, reported, isOver, after}
+use Rattle.outcomes.proofs.Refusals.{Passed}
 use Rattle.rules.specs.declared.Point.{Point}
+use Rattle.rules.specs.declared.Bracket.{Bracket}
+use Rattle.rules.specs.declared.Options.{Options}
 use Rattle.rules.specs.declared.Setup.{Setup}
-use Rattle.rules.specs.Rules.{point, bracket, answerFinite, Last, Report, noneYet, last, reportOf, rounds, askStart, askHigh, search}
-use Rattle.rules.proofs.Iterations.{ended, Bracketed, Within}
-use Rattle.rules.proofs.Along.{progress, noted, kept, under-way, finished-by, Moves, as-before, one-more, Stands, same-last, answer-moves, stands-after, stands-along, few-along, finished-counted, each-finished}
-use Rattle.rules.proofs.EachIteration.{Finished, rounds-report, rounds-arrive}
+use Rattle.rules.specs.declared.Came.{Came}
+use Rattle.rules.specs.declared.Came.the-variants.{To, On}
+use Rattle.rules.specs.Parameters.{setupOf, startRows}
+use Rattle.rules.specs.Rules.{
+  point,
+  bracket,
+  answerFinite,
+  Last,
+  Report,
+  noneYet,
+  last,
+  iterationsIn,
+  reportOf,
+  rounds,
+  askStart,
+  askHigh,
+  search,
+}
+use Rattle.rules.specs.Iterations.{
+  Premise,
+  Bracketed,
+  Within,
+  progress,
+  noted,
+  kept,
+  under-way,
+  finished-by,
+  Finished,
+  Moves,
+  as-before,
+  first,
+  one-more,
+  standing,
+  had,
+  Asks,
+  trial,
+  inside,
+  Ends,
+  verdict,
+  at-limit,
+  not-finite,
+  trial-not-finite,
+  U3-not-finite,
+  spent,
+  not-between,
+  already,
+  reportFinite,
+}
+use Rattle.rules.proofs.Ranges.{level-finite, min-finite, max-finite, start-finite, low-below-high}
+use Rattle.rules.proofs.Along.{
+  Stands,
+  same-last,
+  answer-moves,
+  stands-after,
+  stands-along,
+  few-along,
+  finished-counted,
+  each-finished,
+  asked-rightly,
+  ended-rightly,
+  step-finite,
+  numbers-finite,
+}
+use Rattle.rules.proofs.EachIteration.{Steps, rounds-report, search-arrives}
 
--- ---- the bracket that is reported, if there is one, is a bracket
+-- ---- the bracket that is reported is a bracket
 pub data Holds (L : Float) : Report → Type 0 where
-  none-yet : Holds L noneYet
   holds : {p : Last} → Bracketed L (p .bracket) → Holds L (last p)
 
-pub bracketed : {L : Float} (k : Report) (p : Last) → Holds L k → k ≡ last p → Bracketed L (p .bracket)
-bracketed k p none-yet e = let apart = ap progress e in absurd (omega arith)
+bracketed : {L : Float} (k : Report) (p : Last) → Holds L k → k ≡ last p → Bracketed L (p .bracket)
 bracketed {L} k p (holds {p = q} h) e = subst (λ (l : Last). Bracketed L (l .bracket)) (same-last q p e) h
 
 -- ---- a search that is over before its start is answered reports nothing
@@ -34,136 +110,202 @@ none-finished k p e e' = let z = ap progress e in let z' = ap progress e' in ome
 keeps-none : (o : Over Report) (ys : List Reply) → o .keeps ≡ noneYet → reported (after (end o) ys) ≡ noneYet
 unfolding reported after respond
 keeps-none o [] e = e
-keeps-none o (y ∷ ys) e = keeps-none (record { keeps = o .keeps; by = refusal 8 }) ys e
+keeps-none o (y ∷ ys) e = keeps-none _ ys e
 
-module _ (s : Setup) where
+-- ---- no ending is the Rust's error
+error : Ending Why → Bool
+error (stop w x) = false
+error (limit x) = false
+error (refusal (answerNotFinite f g)) = false
+error (refusal (stepNotFinite x)) = false
+error (refusal (budgetSpent h k)) = false
+error (refusal (stepNotBetween h k x)) = false
+error (refusal alreadyOver) = false
+error (refusal unreachable) = true
+
+no-error : {s : Setup} {k : Report} {asked : List Point} {e : Ending Why} → Ends s k asked e → error e ≡ false
+unfolding error
+no-error (verdict j) = refl
+no-error (at-limit j n) = refl
+no-error (not-finite u) = refl
+no-error (trial-not-finite t u) = refl
+no-error (U3-not-finite t u) = refl
+no-error (spent t n) = refl
+no-error (not-between t u n) = refl
+no-error already = refl
+
+-- ---- with all its answers had U3 asks no more
+not-to : (u : Bracket) (h : Point) (k : Float) → some (To u) ≡ some (On h k) → ⊥
+not-to u h k e = let z : _≡_ {A = ℕ} 0 1 = cc in omega arith
+
+no-more : (s : Setup) (w : Bracket) (asked : List Point) (x : Float) (h : Point) (k : Float) → Asks s w asked x
+    → standing s w asked ≡ some (On h k) → had s w asked ≡ s .options .budget → ⊥
+no-more s w asked x h k (trial {u = u} e f) in-U3 all-had = not-to u h k (sym e ∙ in-U3)
+no-more s w asked x h k (inside e f b) in-U3 all-had = let few = e .answered in omega arith
+
+over-or-asks : (r : Search Report) → ((x : Float) → shown r ≡ asking x → ⊥) → isOver r ≡ true
+unfolding shown isOver
+over-or-asks (ask k x then) silent = absurd (silent x refl)
+over-or-asks (end o) silent = refl
+
+-- ---- a start that no row refuses
+module _ (o : Options) (f0 s0 : Float) (ok : Passed (startRows o f0 s0)) where
+  abbrev s : Setup
+  s = setupOf o f0 s0
+
   -- "at most 3+3B answers"
   abbrev M : ℕ
-  M = 3 + 3 * s .options .budget
+  M = 3 + 3 * o .budget
 
   -- N iterations, and the start
   abbrev T : ℕ
-  T = s .options .limit + 1
+  T = o .limit + 1
 
-  holds-moved : (asked : List Point) (k l : Report) → Moves (Finished s) asked k l → Holds (s .level) k → Holds (s .level) l
-  holds-moved asked k l as-before h = h
-  holds-moved asked k l (one-more {p = p} i f) h = holds (f .sound .stays (bracketed (last p) p h refl))
+  begins : Stands s (Steps s) M T [] (search s)
+  unfolding reported search
+  begins = record {
+    left = suc (o .limit);
+    arrives = search-arrives s (level-finite o f0 s0 ok) (min-finite o f0 s0 ok) (max-finite o f0 s0 ok) (start-finite o f0 s0 ok);
+    total = omega arith;
+    fine = refl;
+  }
 
-  holds-along : (ys : List Reply) (asked : List Point) (r : Search Report) → Stands (Finished s) M T asked r → Holds (s .level) (reported r) → Holds (s .level) (reported (after r ys))
-  unfolding after
-  holds-along [] asked r a h = h
-  holds-along (y ∷ ys) asked r a h =
-      holds-along ys (kept r y asked) (respond r (y .0) (y .1)) (stands-after (Finished s) M T asked r y a)
-      (holds-moved (noted r y asked) (reported r) (reported (respond r (y .0) (y .1))) (answer-moves (Finished s) M T asked r y a) h)
+  -- for any answers: what was asked in the iteration under way, with them
+  module _ (ys : List Reply) where
+    abbrev asked : List Point
+    asked = under-way [] (search s) ys
 
-  -- "Let the answered starting ends have low slope < 0, low cost <= L (initial cost + epsilon_k, as computed) and high slope >= 0."
-  pub record Premise (ya yb : Reply) : Type 0 where
-    pub low-falls : ya .1 <ᶠ 0ᶠ ≡ true
-    pub low-cost : ya .0 ≤ᶠ s .level ≡ true
-    pub high-rises : yb .1 ≥ᶠ 0ᶠ ≡ true
+    abbrev here : Search Report
+    here = after (search s) ys
 
-  -- ---- the start: the answers at min, max and the start step, whatever they are
-  module _ (ya yb yc : Reply) where
-    -- the answered ends
-    abbrev pub low-end : Point
-    low-end = point (s .options .params .min) (ya .0) (ya .1)
+    stands : Stands s (Steps s) M T asked here
+    stands = stands-along s (Steps s) M T ys [] (search s) begins
 
-    abbrev pub high-end : Point
-    high-end = point (s .options .params .max) (yb .0) (yb .1)
+    -- "each finished iteration": where the next answer y brings the count from p's to one more, q's. No premise: each end is, bit for bit, a former end
+    -- or a step asked in that iteration with its answer
+    each-step : (y : Reply) (p q : Last) → reported here ≡ last p → reported (respond here (y .0) (y .1)) ≡ last q → q .iterations ≡ p .iterations + 1
+        → Steps s p (noted here y asked) q
+    each-step y p q = each-finished s (Steps s) M T p q asked here y stands
 
-    abbrev c : Point
-    c = point (s .options .params .start) (yc .0) (yc .1)
+    pub each-iteration : (y : Reply) (p q : Last) → reported here ≡ last p → reported (respond here (y .0) (y .1)) ≡ last q
+        → q .iterations ≡ p .iterations + 1 → Finished s p (noted here y asked) q
+    each-iteration y p q e e' n = each-step y p q e e' n .finished
 
-    -- the search when they are given
-    abbrev pub begun : Search Report
-    begun = after (search s) (ya ∷ yb ∷ yc ∷ [])
-
-    -- either all three are finite, or it is refused
-    module _ (Q : Search Report → Type 0) (go : Q (rounds s (s .options .limit) (bracket low-end high-end) c 0)) (refuses : (n : ℕ) → Q (over noneYet (refusal n))) where
-      by-c : (t : Bool) → Q (cond t (rounds s (s .options .limit) (bracket low-end high-end) c 0) (over noneYet (refusal 2)))
-      by-c true = go
-      by-c false = refuses 2
-
-      by-b : (t : Bool) → Q (respond (cond t (askStart s (bracket low-end high-end)) (over noneYet (refusal 2))) (yc .0) (yc .1))
-      unfolding respond askStart
-      by-b true = by-c (answerFinite (yc .0) (yc .1))
-      by-b false = refuses 8
-
-      by-a : (t : Bool) → Q (respond (respond (cond t (askHigh s low-end) (over noneYet (refusal 2))) (yb .0) (yb .1)) (yc .0) (yc .1))
-      unfolding respond askHigh
-      by-a true = by-b (answerFinite (yb .0) (yb .1))
-      by-a false = refuses 8
-
-      either-begun : Q begun
-      unfolding after respond search
-      either-begun = by-a (answerFinite (ya .0) (ya .1))
-
-    abbrev first : Report
-    first = reportOf s (bracket low-end high-end) c 0
-
-    starts-first : reported (rounds s (s .options .limit) (bracket low-end high-end) c 0) ≡ first
-    starts-first = rounds-report s (s .options .limit) (bracket low-end high-end) c 0
-
-    rounds-stand : Stands (Finished s) M T [] (rounds s (s .options .limit) (bracket low-end high-end) c 0)
-    rounds-stand = record {
-      left = s .options .limit;
-      arrives = rw starts-first (rounds-arrive s (s .options .limit) (bracket low-end high-end) c 0);
-      total = rw starts-first;
-    }
-
-    begun-stands : Stands (Finished s) M T [] begun
-    unfolding reported
-    begun-stands = either-begun (Stands (Finished s) M T []) rounds-stand (λ n. record { left = T; arrives = ended; total = omega arith })
-
-    -- "each finished iteration": for any further answers ys, where the next answer y brings the count from p's to one more, q's. No premise: each end is, bit for bit,
-    -- a former end or a step asked in that iteration with its answer
-    pub each-iteration : (ys : List Reply) (y : Reply) (p q : Last) → reported (after begun ys) ≡ last p → reported (respond (after begun ys) (y .0) (y .1)) ≡ last q
-        → q .iterations ≡ p .iterations + 1 → Finished s p (noted (after begun ys) y (under-way [] begun ys)) q
-    each-iteration ys y p q = each-finished (Finished s) M T p q (under-way [] begun ys) (after begun ys) y (stands-along (Finished s) M T ys [] begun begun-stands)
-
-    -- every answer leaves the report as it was, or finishes the iteration under way, which is counted
-    pub each-answer : (ys : List Reply) (y : Reply)
-        → Moves (Finished s) (noted (after begun ys) y (under-way [] begun ys)) (reported (after begun ys)) (reported (respond (after begun ys) (y .0) (y .1)))
-    each-answer ys y = answer-moves (Finished s) M T (under-way [] begun ys) (after begun ys) y (stands-along (Finished s) M T ys [] begun begun-stands)
+    -- every answer leaves the report as it was, or is the start's last, or finishes the iteration under way, which is counted
+    pub each-answer : (y : Reply) → Moves (Finished s) (noted here y asked) (reported here) (reported (respond here (y .0) (y .1)))
+    each-answer y = only-finished (answer-moves s (Steps s) M T asked here y stands)
+      where
+        only-finished : {asked : List Point} {k l : Report} → Moves (Steps s) asked k l → Moves (Finished s) asked k l
+        only-finished as-before = as-before
+        only-finished (first i) = first i
+        only-finished (one-more i f) = one-more i (f .finished)
 
     -- "an iteration takes at most 3+3B answers": also one that is not finished, and whether its last answer is finite or not
-    pub iteration-bounded : (ys : List Reply) → length (under-way [] begun ys) ≤ 3 + 3 * s .options .budget
-    iteration-bounded ys = few-along (Finished s) M T ys [] begun begun-stands (omega arith)
+    pub iteration-bounded : length asked ≤ 3 + 3 * o .budget
+    iteration-bounded = few-along s (Steps s) M T ys [] (search s) begins (omega arith)
 
     -- the iterations that are reported are those that the answers finished
-    pub iterations-counted : (ys : List Reply) (p : Last) → reported (after begun ys) ≡ last p → p .iterations ≡ finished-by begun ys
-    iterations-counted ys p =
-        either-begun (λ r. reported (after r ys) ≡ last p → p .iterations ≡ finished-by r ys)
-        (λ e.
-        let r = rounds s (s .options .limit) (bracket low-end high-end) c 0 in
-        let z = finished-counted (Finished s) M T ys [] r rounds-stand in
-        let a = ap progress e in
-        let b = ap progress starts-first in
-        omega arith)
-        (λ n e. absurd (none-finished _ p (keeps-none (record { keeps = noneYet; by = refusal n }) ys refl) e))
+    pub iterations-counted : iterationsIn (reported here) ≡ finished-by (search s) ys
+    unfolding reported search
+    iterations-counted = let z = finished-counted s (Steps s) M T ys [] (search s) begins in omega arith
 
     -- N at most
-    pub iterations-bounded : (ys : List Reply) (p : Last) → reported (after begun ys) ≡ last p → p .iterations ≤ s .options .limit
-    iterations-bounded ys p e =
-        let a = stands-along (Finished s) M T ys [] begun begun-stands in
-        let t = a .total in
+    pub iterations-bounded : (p : Last) → reported here ≡ last p → p .iterations ≤ o .limit
+    iterations-bounded p e =
+        let t = stands .total in
         let d = ap progress e in
         omega arith
 
-    -- under 01's min < max and the three facts
-    module _ (ranges : s .options .params .min <ᶠ s .options .params .max ≡ true) (premise : Premise ya yb) where
-      starts-bracketed : Bracketed (s .level) (bracket low-end high-end)
-      starts-bracketed = record { low-falls = premise .low-falls; low-cost = premise .low-cost; high-rises = premise .high-rises; in-order = ranges }
+    -- ---- why a step is asked, and why it ended
 
-      begun-holds : Holds (s .level) (reported begun)
-      unfolding reported
-      begun-holds = either-begun (λ r. Holds (s .level) (reported r)) (rw starts-first (holds starts-bracketed)) (λ n. none-yet)
+    pub asks : (p : Last) (x : Float) → reported here ≡ last p → shown here ≡ asking x → Asks s (p .bracket) asked x
+    asks p x = asked-rightly s (Steps s) M T asked here p x stands
 
-      -- the bracket that is reported after any answers is one
-      pub bracket-stays : (ys : List Reply) → Holds (s .level) (reported (after begun ys))
-      bracket-stays ys = holds-along ys [] begun begun-stands begun-holds
+    pub asks-finite : (x : Float) → shown here ≡ asking x → finite x ≡ true
+    asks-finite x = step-finite s (Steps s) M T asked here x stands
 
-      -- and each finished iteration's lies within the former
-      pub bracket-narrows : (ys : List Reply) (y : Reply) (p q : Last) → reported (after begun ys) ≡ last p → reported (respond (after begun ys) (y .0) (y .1)) ≡ last q
-          → q .iterations ≡ p .iterations + 1 → Within (p .bracket) (q .bracket)
-      bracket-narrows ys y p q e e' n = each-iteration ys y p q e e' n .sound .inside (bracketed (reported (after begun ys)) p (bracket-stays ys) e)
+    pub ends : (k : Report) (e : Ending Why) → here ≡ over k e → Ends s k asked e
+    ends k e = ended-rightly s (Steps s) M T asked here k e stands
+
+    pub report-finite : reportFinite (reported here) ≡ true
+    report-finite = numbers-finite s (Steps s) M T asked here stands
+
+    pub never-unreachable : (k : Report) → here ≡ over k (refusal unreachable) → ⊥
+    unfolding error
+    never-unreachable k e = true≢false (no-error (ends k (refusal unreachable) e))
+
+    -- 6, "one U3 run has had B answers and the last did not end it": then it is over
+    pub spent-over : (p : Last) (h : Point) (k : Float) → reported here ≡ last p → standing s (p .bracket) asked ≡ some (On h k)
+        → had s (p .bracket) asked ≡ o .budget → isOver here ≡ true
+    spent-over p h k e in-U3 all-had = over-or-asks here (λ x shows. no-more s (p .bracket) asked x h k (asks p x e shows) in-U3 all-had)
+
+  -- ---- the bracket: the answers at min, max and the start step, whatever they are
+  module _ (ya yb yc : Reply) where
+    abbrev low-end : Point
+    low-end = point (o .params .min) (ya .0) (ya .1)
+
+    abbrev high-end : Point
+    high-end = point (o .params .max) (yb .0) (yb .1)
+
+    abbrev c : Point
+    c = point (o .params .start) (yc .0) (yc .1)
+
+    abbrev w : Bracket
+    w = bracket low-end high-end
+
+    abbrev on : Search Report
+    on = rounds s (o .limit) w c 0
+
+    -- either all three are finite, or it is refused
+    module _ (Q : Search Report → Type 0) (go : Q on) (refuses : (why : Why) → Q (over noneYet (refusal why))) where
+      by-c : (t : Bool) → Q (cond t on (over noneYet (refusal (answerNotFinite (yc .0) (yc .1)))))
+      by-c true = go
+      by-c false = refuses _
+
+      by-b : (t : Bool) → Q (respond (cond t (askStart s w) (over noneYet (refusal (answerNotFinite (yb .0) (yb .1))))) (yc .0) (yc .1))
+      unfolding respond askStart
+      by-b true = by-c (answerFinite (yc .0) (yc .1))
+      by-b false = refuses alreadyOver
+
+      by-a : (t : Bool)
+          → Q (respond (respond (cond t (askHigh s low-end) (over noneYet (refusal (answerNotFinite (ya .0) (ya .1))))) (yb .0) (yb .1)) (yc .0) (yc .1))
+      unfolding respond askHigh
+      by-a true = by-b (answerFinite (yb .0) (yb .1))
+      by-a false = refuses alreadyOver
+
+      either-begun : Q (after (search s) (ya ∷ yb ∷ yc ∷ []))
+      unfolding after respond search
+      either-begun = by-a (answerFinite (ya .0) (ya .1))
+
+    -- under the three facts
+    module _ (premise : Premise (s .level) low-end high-end) where
+      starts-bracketed : Bracketed (s .level) w
+      starts-bracketed = record { three = premise; in-order = low-below-high o f0 s0 ok }
+
+      holds-moved : (asked : List Point) (k l : Report) → Moves (Steps s) asked k l → Holds (s .level) k → Holds (s .level) l
+      holds-moved asked k l as-before h = h
+      holds-moved asked k l (one-more {p = p} i f) h = holds (f .sound .stays (bracketed (last p) p h refl))
+
+      holds-along : (ys : List Reply) (asked : List Point) (r : Search Report) → Stands s (Steps s) M T asked r → Holds (s .level) (reported r)
+          → Holds (s .level) (reported (after r ys))
+      unfolding after
+      holds-along [] asked r a h = h
+      holds-along (y ∷ ys) asked r a h =
+          holds-along ys (kept r y asked) (respond r (y .0) (y .1)) (stands-after s (Steps s) M T asked r y a)
+          (holds-moved (noted r y asked) (reported r) (reported (respond r (y .0) (y .1))) (answer-moves s (Steps s) M T asked r y a) h)
+
+      -- "after each finished iteration the bracket meets the same three, low step < high step": whatever bracket is reported
+      pub bracket-stays : (ys : List Reply) (p : Last) → reported (after (search s) (ya ∷ yb ∷ yc ∷ ys)) ≡ last p → Bracketed (s .level) (p .bracket)
+      unfolding after reported
+      bracket-stays ys p =
+          either-begun (λ r. (asked : List Point) → Stands s (Steps s) M T asked r → reported (after r ys) ≡ last p → Bracketed (s .level) (p .bracket))
+          (λ asked a e.
+          let begun : Holds (s .level) (reported on) = rw (rounds-report s (o .limit) w c 0) (holds starts-bracketed) in
+          bracketed (reported (after on ys)) p (holds-along ys asked on a begun) e)
+          (λ why asked a e. absurd (none-finished _ p (keeps-none (record { keeps = noneYet; by = refusal why }) ys refl) e))
+          (under-way [] (search s) (ya ∷ yb ∷ yc ∷ [])) (stands (ya ∷ yb ∷ yc ∷ []))
+
+      -- "it lies within the former bracket"
+      pub bracket-narrows : (ys : List Reply) (y : Reply) (p q : Last) → let r = after (search s) (ya ∷ yb ∷ yc ∷ ys) in
+          reported r ≡ last p → reported (respond r (y .0) (y .1)) ≡ last q → q .iterations ≡ p .iterations + 1 → Within (p .bracket) (q .bracket)
+      bracket-narrows ys y p q e e' n = each-step (ya ∷ yb ∷ yc ∷ ys) y p q e e' n .sound .inside (bracket-stays ys p e)

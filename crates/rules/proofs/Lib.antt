@@ -1,10 +1,10 @@
 pub mod MarkedSums
 pub mod Ranges
-pub mod Unreachable
-pub mod Iterations
 pub mod StaysBracket
+pub mod Iterations
 pub mod EachIteration
 pub mod Along
 pub mod Bounds
-pub mod Budget
 pub mod Demand3
+pub mod Best
+pub mod TheRust

@@ -4,10 +4,13 @@ use mathlib.Core.Path.{_≡_, refl}
 use mathlib.Core.Bool.{true}
 use mathlib.Core.Logic.{_⊎_, inl, inr}
 use mathlib.Core.List.{List, [], _∷_}
+use mathlib.Core.Option.{some}
 use Prim.Native.Nat.{ℕ}
 use lib.Ieee.{Float, nan, add, sub, mul, div, neg, le, lt, eq, ofBits, ofInt}
 use Rattle.floats.specs.Numerals.{whole, quarters, minus}
-use Rattle.numbers.specs.Results.{value}
+use Rattle.numbers.specs.Results as Results
+use Rattle.numbers.specs.Results.{value, refuse_else_}
+use Rattle.outcomes.specs.Outcomes.{Why, numberFor}
 use Rattle.outcomes.specs.Asking.{Run, ask, end, Reply}
 use Rattle.conditions.proofs.MarkedSums as conditions
 use Rattle.rules.specs.declared.Point.{Point}
@@ -16,8 +19,29 @@ use Rattle.rules.specs.declared.Options.{Options}
 use Rattle.rules.specs.declared.Setup.{Setup}
 use Rattle.rules.specs.declared.Further.the-variants.{Nothing, At}
 use Rattle.rules.specs.declared.Came.the-variants.{To}
-use Rattle.rules.specs.Parameters.{defaultOptions, admitted}
-use Rattle.rules.specs.Rules.{point, bracket, answerFinite, secantOf, updatedOf, narrowedOf, S2, S3, L2, bestOver, bestOf, trial, between, U3, update, further, afterS4, afterS1, iteration}
+use Rattle.rules.specs.Parameters.{defaultOptions, setupOf, startRows}
+use Rattle.rules.specs.Rules.{
+  point,
+  bracket,
+  answerFinite,
+  secantOf,
+  updateOf,
+  narrowedOf,
+  S2,
+  S3,
+  L2,
+  bestOver,
+  bestOf,
+  trial,
+  between,
+  U3,
+  updating,
+  update,
+  further,
+  afterS4,
+  afterS1,
+  iteration,
+}
 
 -- "epsilon = 0, L = 1, theta = 0.5, a = (0,1,-2), b = (4,9,6) unless said." The start has cost 1 and slope -2; B is the budget.
 abbrev options : ℕ → Options
@@ -59,11 +83,14 @@ Asks = Run (Unit {0}) Result
 abbrev refused : ℕ → Asks
 refused n = end (inl n)
 
+abbrev by-number : Why → Result
+by-number why = inl (numberFor why)
+
 abbrev becomes : Bracket → Asks
 becomes w = end (inr w)
 
 pub updated-with : ℕ → Point → Asks
-updated-with B c = update (setup B) inl tt ab c becomes
+updated-with B c = update (setup B) by-number tt ab c becomes
 
 -- the run that is left after some answers, and the steps that it asks up to there and next
 pub left : Asks → List Reply → Asks
@@ -94,10 +121,14 @@ abbrev at-minimum : Bracket
 at-minimum = bracket a low
 
 pub iterated : Asks
-iterated = iteration (setup 100) inl tt at-minimum becomes
+iterated = iteration (setup 100) by-number tt at-minimum becomes
+
+-- 01 accepts the setup
+pub accepts : ℕ → Results.Result Setup
+accepts B = refuse (startRows (options B) (whole 1) (minus (whole 2))) else setupOf (options B) (whole 1) (minus (whole 2))
 
 pub record MarkedSums : Type 0 where
-  pub setup-accepted : (admitted (options 100) (whole 1) (minus (whole 2)) ≡ value (setup 100)) × (admitted (options 2) (whole 1) (minus (whole 2)) ≡ value (setup 2))
+  pub setup-accepted : (accepts 100 ≡ value (setup 100)) × (accepts 2 ≡ value (setup 2))
   -- "secant(a, b) = 1"
   pub M1 : secantOf a b ≡ whole 1
   -- "c.x = 4, and c.x = 0: unchanged"
@@ -121,7 +152,7 @@ pub record MarkedSums : Type 0 where
   -- "b = (1,0,0): S1 asks 1, unchanged; S2 gives 0/0, refusal 5"
   pub M8 :
       (steps iterated [] ≡ whole 1 ∷ [])
-      × ((f g : Float) → updatedOf (whole 1) at-minimum (point (whole 1) f g) ≡ To at-minimum)
+      × ((f g : Float) → updateOf (whole 1) at-minimum (point (whole 1) f g) ≡ some (To at-minimum))
       × (S2 at-minimum (whole 1) at-minimum ≡ At nan)
       × (S3 at-minimum (whole 1) at-minimum ≡ Nothing)
       × ((f g : Float) → answerFinite f g ≡ true → left iterated ((f, g) ∷ []) ≡ refused 5)
@@ -135,7 +166,7 @@ pub record MarkedSums : Type 0 where
   pub M12 : conditions.M12
 
 pub marked-sums : MarkedSums
-unfolding updated-with left steps iterated iteration afterS1 afterS4 further trial between U3 updatedOf narrowedOf S2 S3 L2 bestOver add sub mul div neg le lt eq ofBits ofInt
+unfolding accepts updated-with left steps iterated iteration afterS1 afterS4 further trial between U3 updating updateOf narrowedOf S2 S3 L2 bestOver add sub mul div neg le lt eq ofBits ofInt
 marked-sums = record {
   setup-accepted = (refl, refl);
   M1 = refl;

@@ -1,2 +1,3 @@
 pub mod Parameters
 pub mod Rules
+pub mod Iterations

@@ -1,10 +1,11 @@
 -- 01, "Parameters", and of "Numbers in, numbers refused" B and N; epsilon_k and L; and the refusals of a start, in 01's order.
-use mathlib.Core.Bool.{Bool, _&&_}
+use mathlib.Core.Bool.{Bool, not, _&&_}
+use mathlib.Core.List.{List, [], _∷_}
 use lib.Dec.{leb}
 use lib.Ieee.{Float, binary64, ofBits}
 use lib.Ieee.Scale.{finite}
 use Rattle.floats.specs.Arithmetic.{_⊕_, _⊗_, _<ᶠ_, _≤ᶠ_, 0ᶠ, ½ᶠ, 1ᶠ}
-use Rattle.numbers.specs.Results.{Result, value, unless_refuse_else_}
+use Rattle.numbers.specs.Results.{Row}
 use Rattle.numbers.specs.Numbers.{absOf}
 use Rattle.rules.specs.declared.Params.{Params}
 use Rattle.rules.specs.declared.Options.{Options}
@@ -78,10 +79,11 @@ levelOf o f0 = f0 ⊕ epsilonK o f0
 abbrev pub setupOf : Options → Float → Float → Setup
 setupOf o f0 s0 = record { options = o; f0 = f0; s0 = s0; level = levelOf o f0 }
 
--- the setup of the search that starts, or the first refusal that applies
-abbrev pub admitted : Options → Float → Float → Result Setup
-admitted o f0 s0 =
-    unless (suppliedFinite o f0 s0) refuse 2 else
-    unless (inRanges o) refuse 3 else
-    unless (finite (epsilonK o f0) && finite (levelOf o f0)) refuse 4 else
-    value (setupOf o f0 s0)
+-- ---- the refusals of a start, in 01's order: 2 over all supplied numbers, then
+
+-- 3, over all ranges, and 4: ".. epsilon_k or L comes out not finite"
+abbrev pub rangeRows : Options → Float → List Row
+rangeRows o f0 = (3, not (inRanges o)) ∷ (4, not (finite (epsilonK o f0) && finite (levelOf o f0))) ∷ []
+
+abbrev pub startRows : Options → Float → Float → List Row
+startRows o f0 s0 = (2, not (suppliedFinite o f0 s0)) ∷ rangeRows o f0

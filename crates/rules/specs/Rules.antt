@@ -1,14 +1,15 @@
 -- 01, "Hager-Zhang rules", line by line: each rule once, as a decision; then the flow over them as a run of questions and answers.
 -- A point is (x, f, g): step, cost and slope. A bracket is (a, b). L is the setup's level. The types are declared in src/lib.rt, with their cases: what an answer comes to
 -- is `To` a bracket, or `On` in U3 with its ends h and k; a further trial is `At` a step, or there is `Nothing`; a verdict `Holds`, or it `Fails`.
--- The marked sums M1 to M12 are proved of this text (proofs/MarkedSums.antt), and that the Rust's "unreachable point" cannot occur (proofs/Unreachable.antt).
+-- The marked sums M1 to M12 are proved of this text (proofs/MarkedSums.antt). specs/Iterations.antt has the words for what is proved of it along any answers.
 use Prim.Native.Nat.{ℕ, zero, suc, _+_}
 use mathlib.Core.Bool.{Bool, cond, _&&_, _||_}
+use mathlib.Core.Option.{Option, some, none}
 use lib.Ieee.{Float, binary64, ofBits}
 use lib.Ieee.Scale.{finite}
 use Rattle.floats.specs.Arithmetic.{_⊕_, _⊖_, _⊗_, _⊘_, _<ᶠ_, _≤ᶠ_, _>ᶠ_, _≥ᶠ_, 0ᶠ, 1ᶠ, 2ᶠ}
 use Rattle.numbers.specs.Numbers.{absOf}
-use Rattle.outcomes.specs.Outcomes.{verdictWord, stop, limit}
+use Rattle.outcomes.specs.Outcomes.{verdictWord, stop, limit, Why, stepNotFinite, budgetSpent, stepNotBetween, unreachable}
 use Rattle.outcomes.specs.Asking.{Run, end, Search, over, keeping, question}
 use Rattle.outcomes.specs.declared.Verdict.the-variants.{Wolfe, Approximate}
 use Rattle.rules.specs.declared.Point.{Point}
@@ -37,13 +38,14 @@ answerFinite f g = finite f && finite g
 -- ---- "Update of (a, b) with c"
 
 -- U0: "c.x <= a.x or c.x >= b.x: unchanged". U1: "c.g >= 0 (minus zero too): (a, c)". U2: "c.g < 0, c.f <= L: (c, b)".
--- U3: "c.g < 0, c.f > L: ends h = a, k = c.x", and goes on. An answer that is not finite never comes here (`question`, refusal 2), so what is not >= 0 is < 0.
-unfoldable pub updatedOf : Float → Bracket → Point → Came
-updatedOf L w c =
-    cond (c .x ≤ᶠ w .a .x || c .x ≥ᶠ w .b .x) (To w)
-    (cond (c .g ≥ᶠ 0ᶠ) (To (bracket (w .a) c))
-    (cond (c .f ≤ᶠ L) (To (bracket c (w .b)))
-    (On (w .a) (c .x))))
+-- U3: "c.g < 0, c.f > L: ends h = a, k = c.x", and goes on. Where no guard holds the Rust ends with its error "unreachable point": `none`.
+unfoldable pub updateOf : Float → Bracket → Point → Option Came
+updateOf L w c =
+    cond (c .x ≤ᶠ w .a .x || c .x ≥ᶠ w .b .x) (some (To w))
+    (cond (c .g ≥ᶠ 0ᶠ) (some (To (bracket (w .a) c)))
+    (cond (c .g <ᶠ 0ᶠ && c .f ≤ᶠ L) (some (To (bracket c (w .b))))
+    (cond (c .g <ᶠ 0ᶠ && c .f >ᶠ L) (some (On (w .a) (c .x)))
+    none)))
 
 -- "Ask d.x = (1-theta)*h.x + theta*k."
 abbrev pub middleOf : Float → Point → Float → Float
@@ -97,7 +99,8 @@ lowest p q r = p .f ≤ᶠ q .f && p .f ≤ᶠ r .f
 unfoldable pub bestOver : Point → Point → Point → Point → Point
 bestOver old a b c = cond (lowest c a b) c (cond (lowest b a c) b (cond (lowest a b c) a old))
 
--- 01 says nothing for the case that no test holds. With finite costs one always does (`best-is-one`, proofs/Unreachable.antt), so the a in that place is never seen.
+-- 01 says nothing for the case that no test holds. With finite costs one always does (`best-is-one`, proofs/Best.antt), and every reported
+-- point is finite, so the a in that place is never seen.
 abbrev pub bestOf : Point → Point → Point → Point
 bestOf a b c = bestOver a a b c
 
@@ -116,33 +119,40 @@ approximateHolds s p =
 unfoldable pub judgedOf : Setup → Point → Judged
 judgedOf s p = cond (wolfeHolds s p) (Holds Wolfe) (cond (approximateHolds s p) (Holds Approximate) Fails)
 
--- ---- the flow. `kept`, of any type K, is what is reported meanwhile; a refusal n comes to `refuse n`; `then` goes on with what was reached. From outside, these rules
--- take s, refuse and kept first: `iteration s refuse kept w then`.
+-- ---- the flow. `kept`, of any type K, is what is reported meanwhile; a refusal comes to `refuse` of its reason; `then` goes on with what was
+-- reached. From outside, these rules take s, refuse and kept first: `iteration s refuse kept w then`.
 
-module _ {K R : Type 0} (s : Setup) (refuse : ℕ → R) (kept : K) where
+module _ {K R : Type 0} (s : Setup) (refuse : Why → R) (kept : K) where
   abbrev pub asking : Float → (Point → Run K R) → Run K R
   asking x then = question answerFinite refuse kept x (λ f g. then (point x f g))
 
   -- 01, refusal 5: "the next trial step comes out not finite; nothing is asked"
   unfoldable pub trial : Float → (Point → Run K R) → Run K R
-  trial x then = cond (finite x) (asking x then) (end (refuse 5))
+  trial x then = cond (finite x) (asking x then) (end (refuse (stepNotFinite x)))
 
   -- 5, then 7: "U3's next step is not strictly between its two ends; nothing is asked"
   unfoldable pub between : Point → Float → Float → (Point → Run K R) → Run K R
-  between h k x then = cond (finite x) (cond (h .x <ᶠ x && x <ᶠ k) (asking x then) (end (refuse 7))) (end (refuse 5))
+  between h k x then =
+      cond (finite x)
+      (cond (h .x <ᶠ x && x <ᶠ k) (asking x then) (end (refuse (stepNotBetween (h .x) k x))))
+      (end (refuse (stepNotFinite x)))
 
   -- U3 while n answers may come; where U0 to U2, or the last answer, came `To` a bracket, there is nothing to ask. 6: "one U3 run has had B answers and the last did
   -- not end it", before 5 and 7
   unfoldable pub U3 : ℕ → Came → (Bracket → Run K R) → Run K R
   U3 zero (To u) then = then u
-  U3 zero (On h k) then = end (refuse 6)
+  U3 zero (On h k) then = end (refuse (budgetSpent (h .x) k))
   U3 (suc n) (To u) then = then u
   U3 (suc n) (On h k) then =
       between h k (middleOf (s .options .params .theta) h k) λ d.
       U3 n (narrowedOf (s .level) h k d) then
 
+  unfoldable pub updating : Option Came → (Bracket → Run K R) → Run K R
+  updating (some came) then = U3 (s .options .budget) came then
+  updating none then = end (refuse unreachable)
+
   abbrev pub update : Bracket → Point → (Bracket → Run K R) → Run K R
-  update w c then = U3 (s .options .budget) (updatedOf (s .level) w c) then
+  update w c then = updating (updateOf (s .level) w c) then
 
   -- a further trial, if there is one, and the update with it
   unfoldable pub further : Further → Bracket → (Bracket → Run K R) → Run K R
@@ -175,6 +185,10 @@ pub record Last : Type 0 where
 pub data Report : Type 0 where
   noneYet : Report
   last : Last → Report
+
+abbrev pub iterationsIn : Report → ℕ
+iterationsIn noneYet = 0
+iterationsIn (last p) = p .iterations
 
 -- a verdict stops the search at the best step; with none it goes on
 unfoldable pub decided : Report → Float → Search Report → Judged → Search Report
