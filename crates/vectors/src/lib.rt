@@ -3,8 +3,8 @@
 ghost use mathlib.Core.Path.{_≡_};
 ghost use Prim.Native.Nat.{_<_};
 ghost use lib.ListN.{length};
-ghost use Rattle.vectors.specs.Vectors.{badLength, allFinite, products, leftSum, moved, dotOf, pointOf, heldAfter};
-ghost use Rattle.vectors.specs.Told.{numberOf, dotTold, pointTold};
+ghost use Rattle.vectors.specs.Vectors.{badLength, allFinite, products, leftSum, moved};
+ghost use Rattle.vectors.specs.Told.{numberOf, DotSaid, PointSaid};
 
 // Why vectors are refused, in the order in which the reasons are tried.
 pub enum Refusal {
@@ -76,7 +76,7 @@ fn left_sum(a: &[f64], b: &[f64]) -> f64
 
 // The sum of the products of a's elements with b's, added from the left.
 pub fn dot(a: &[f64], b: &[f64]) -> DotResult
-    ensures { λ r. ⌜ dotTold r ≡ dotOf (now (a .entry)) (now (b .entry)) ⌝ }
+    ensures { λ r. ⌜ DotSaid (now (a .entry)) (now (b .entry)) r ⌝ }
 {
     let n = a.len();
     if bad_length(n) {
@@ -127,8 +127,7 @@ fn write_moved(x0: &[f64], alpha: f64, d: &[f64], out: &mut [f64])
 
 // Writes x0 + alpha * d to out, once every element of it is known to be finite.
 pub fn point(x0: &[f64], alpha: f64, d: &[f64], out: &mut [f64]) -> PointResult
-    ensures { λ r. ⌜ (pointTold r (now (out .exit)) ≡ pointOf (now (x0 .entry)) alpha (now (d .entry)) (length (now (out .entry))))
-        × (now (out .exit) ≡ heldAfter (pointOf (now (x0 .entry)) alpha (now (d .entry)) (length (now (out .entry)))) (now (out .entry))) ⌝ }
+    ensures { λ r. ⌜ PointSaid (now (x0 .entry)) alpha (now (d .entry)) (now (out .entry)) r (now (out .exit)) ⌝ }
 {
     let n = x0.len();
     if bad_length(n) {
