@@ -1,10 +1,10 @@
-// The four conditions that a step can be held to, each with its constants (argmin's condition/armijo.rs, goldstein.rs, wolfe.rs,
-// strongwolfe.rs).
+// The four conditions that a step can be held to, each with its constants (argmin's condition/armijo.rs, goldstein.rs,
+// wolfe.rs, strongwolfe.rs).
 
 use outcomes::Refusal;
 ghost use mathlib.Core.Path.{_≡_};
-ghost use Rattle.conditions.specs.Conditions.{constantsFinite, inRange, checkedOf, needsSlope, answerFinite, holdsOf};
-ghost use Rattle.conditions.specs.Told.{checkedTold};
+ghost use Rattle.conditions.specs.Conditions.{constantsFinite, inRange, needsSlope, answerFinite, holdsOf};
+ghost use Rattle.conditions.specs.Told.{CheckedSaid};
 
 pub enum Condition {
     Armijo { c: f64 },
@@ -43,7 +43,7 @@ impl Condition {
     }
 
     pub fn checked(self) -> Checked
-        ensures { λ r. ⌜ checkedTold r ≡ checkedOf self ⌝ }
+        ensures { λ r. ⌜ CheckedSaid self r ⌝ }
     {
         if !self.constants_finite() {
             return Checked::Unfit(Refusal::SuppliedNotFinite);
@@ -76,8 +76,8 @@ impl Condition {
         }
     }
 
-    // Whether the step t with cost f and slope s meets the condition, for a search that starts at cost f0 and slope s0. The bare test: where a NaN
-    // stands it is false, so a search asks `answer_finite` first.
+    // Whether the step t with cost f and slope s meets the condition, for a search that starts at cost f0 and slope s0.
+    // The bare test: where a NaN stands it is false, so a search asks `answer_finite` first.
     pub fn holds(self, f0: f64, s0: f64, t: f64, f: f64, s: f64) -> bool
         ensures { λ r. ⌜ r ≡ holdsOf self f0 s0 t f s ⌝ }
     {

@@ -3,8 +3,8 @@
 use outcomes::Refusal;
 ghost use mathlib.Core.Path.{_≡_};
 ghost use Prim.Native.Nat.{_<_};
-ghost use Rattle.curves.specs.Curves.{entryOf, curveAt, valueOf, slopeOf, numberedOf};
-ghost use Rattle.curves.specs.Told.{curveTold};
+ghost use Rattle.curves.specs.Curves.{entryOf, curveAt, valueOf, slopeOf};
+ghost use Rattle.curves.specs.Told.{NumberedSaid};
 
 // c0 to c4 of the curves 1 to 8.
 const TABLE: [i8; 40] = [
@@ -85,7 +85,7 @@ fn curve_at(i: usize) -> Curve
 
 // The curve with a number from 1 to 8.
 pub fn numbered(n: u32) -> Known
-    ensures { λ r. ⌜ curveTold r ≡ numberedOf n ⌝ }
+    ensures { λ r. ⌜ NumberedSaid n r ⌝ }
 {
     if n < 1 {
         return Known::Unknown(Refusal::OutOfRange);

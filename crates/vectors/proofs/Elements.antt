@@ -1,30 +1,26 @@
 -- The definitions of specs/Vectors.antt one element at a time, as a loop takes them, for every length. Assumes nothing.
 use mathlib.Core.Path.{_≡_, refl, ap}
 use mathlib.Core.List.{List, [], _∷_, _++_, append-nil, zipWith, foldl}
-use mathlib.Core.Bool.{Bool, true, false, _&&_}
+use mathlib.Core.Bool.{true, false, _&&_, true≢false}
 use Prim.Native.Nat.{ℕ, zero, suc, _+_, _≤_, _<_}
 use native.Mathlib.Nat.{not-suc-le-zero, le-of-suc-le-suc}
 use native.Mathlib.Numerals.{add-one}
 use native.Mathlib.Omega.{arith}
 use lib.ListN.{length, getD, drop, take, set, drop-of-length-le}
 use lib.Seq.{drop-cons, take-all}
-use lib.Dec.{leb}
 use lib.Ieee.{Float, nan}
-use borrow.Author.Tests.{leb-true}
 use lib.Ieee.Scale.{finite}
 use Rattle.floats.specs.Arithmetic.{_⊕_}
-use Rattle.vectors.specs.Vectors.{sized, allFinite, leftSum}
+use Rattle.vectors.specs.Vectors.{badLength, allFinite, leftSum}
 
 -- ---- a length that is taken
-and-left : (a b : Bool) → (a && b) ≡ true → a ≡ true
-and-left true b e = refl
-and-left false b e = e
-
-pub sized-one : (n : ℕ) → sized n ≡ true → 1 ≤ n
-sized-one n e = leb-true 1 n (and-left (leb 1 n) (leb n 256) e)
+pub not-empty : (n : ℕ) → badLength n ≡ false → 0 < n
+not-empty zero e = absurd (true≢false e)
+not-empty (suc n) e = omega arith
 
 -- ---- a test of all elements from i on
-pub finite-step : (xs : List Float) (i : ℕ) → i < length xs → allFinite (drop i xs) ≡ (finite (getD xs i nan) && allFinite (drop (i + 1) xs))
+pub finite-step : (xs : List Float) (i : ℕ) → i < length xs
+    → allFinite (drop i xs) ≡ (finite (getD xs i nan) && allFinite (drop (i + 1) xs))
 finite-step xs i h = rw (drop-cons xs i nan, add-one)
 
 pub finite-end : (xs : List Float) (i : ℕ) → length xs ≤ i → allFinite (drop i xs) ≡ true
@@ -35,7 +31,8 @@ pub sum-start : (ps : List Float) → 0 < length ps → leftSum ps ≡ foldl _�
 sum-start [] h = absurd (not-suc-le-zero h)
 sum-start (p ∷ ps) h = refl
 
-pub sum-step : (s : Float) (ps : List Float) (i : ℕ) → i < length ps → foldl _⊕_ s (drop i ps) ≡ foldl _⊕_ (s ⊕ getD ps i nan) (drop (i + 1) ps)
+pub sum-step : (s : Float) (ps : List Float) (i : ℕ) → i < length ps
+    → foldl _⊕_ s (drop i ps) ≡ foldl _⊕_ (s ⊕ getD ps i nan) (drop (i + 1) ps)
 sum-step s ps i h = rw (drop-cons ps i nan, add-one)
 
 pub sum-end : (s : Float) (ps : List Float) (i : ℕ) → length ps ≤ i → foldl _⊕_ s (drop i ps) ≡ s
@@ -49,7 +46,8 @@ module _ (f : Float → Float → Float) where
   zip-length (x ∷ xs) [] e = absurd (omega arith)
   zip-length (x ∷ xs) (y ∷ ys) e = ap suc (zip-length xs ys (omega arith))
 
-  pub zip-at : (xs ys : List Float) (i : ℕ) → i < length xs → i < length ys → getD (zipWith f xs ys) i nan ≡ f (getD xs i nan) (getD ys i nan)
+  pub zip-at : (xs ys : List Float) (i : ℕ) → i < length xs → i < length ys
+      → getD (zipWith f xs ys) i nan ≡ f (getD xs i nan) (getD ys i nan)
   unfolding zipWith
   zip-at [] ys i h k = absurd (not-suc-le-zero h)
   zip-at (x ∷ xs) [] i h k = absurd (not-suc-le-zero k)
@@ -57,7 +55,8 @@ module _ (f : Float → Float → Float) where
   zip-at (x ∷ xs) (y ∷ ys) (suc i) h k = zip-at xs ys i (le-of-suc-le-suc h) (le-of-suc-le-suc k)
 
 -- ---- a list filled from the front: what it holds after i stores, and the store at i
-pub store : (d m : List Float) (i : ℕ) → i < length d → i < length m → set (take i m ++ drop i d) i (getD m i nan) ≡ take (suc i) m ++ drop (suc i) d
+pub store : (d m : List Float) (i : ℕ) → i < length d → i < length m
+    → set (take i m ++ drop i d) i (getD m i nan) ≡ take (suc i) m ++ drop (suc i) d
 store [] m i h k = absurd (not-suc-le-zero h)
 store (y ∷ d) [] i h k = absurd (not-suc-le-zero k)
 store (y ∷ d) (x ∷ m) zero h k = refl

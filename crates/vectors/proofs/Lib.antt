@@ -1,3 +1,4 @@
 pub mod Elements
 pub mod PartialSums
 pub mod Determined
+pub mod Untouched

@@ -1,6 +1,9 @@
--- What each case of an answer tells, in 01's numbers and values.
+-- What each case of an answer tells, in 01's numbers and values; and what the contracts of `dot` and `point` say
+-- (`DotSaid`, `PointSaid`).
+use mathlib.Core.Path.{_≡_}
 use Prim.Native.Nat.{ℕ}
 use mathlib.Core.List.{List}
+use lib.ListN.{length}
 use lib.Ieee.{Float}
 use Rattle.vectors.specs.declared.Refusal.{Refusal}
 use Rattle.vectors.specs.declared.Refusal.the-variants.{Lengths, SuppliedNotFinite, ResultNotFinite}
@@ -9,6 +12,7 @@ use Rattle.vectors.specs.declared.DotResult.the-variants.{Value, Refused
 use Rattle.vectors.specs.declared.PointResult.{PointResult}
 use Rattle.vectors.specs.declared.PointResult.the-variants.{Written, Untouched}
 use Rattle.numbers.specs.Results.{Result, value, refused}
+use Rattle.vectors.specs.Vectors.{dotOf, pointOf, heldAfter}
 
 abbrev pub numberOf : Refusal → ℕ
 numberOf Lengths = 1
@@ -19,7 +23,16 @@ abbrev pub dotTold : DotResult → Result Float
 dotTold (Value v) = value v
 dotTold (Refused k) = refused (numberOf k)
 
+-- what `dot`'s contract says of a result r
+abbrev pub DotSaid : List Float → List Float → DotResult → Type 0
+DotSaid a b r = dotTold r ≡ dotOf a b
+
 -- `Written` tells of what the buffer holds now
 abbrev pub pointTold : PointResult → List Float → Result (List Float)
 pointTold Written held = value held
 pointTold (Untouched k) held = refused (numberOf k)
+
+-- what `point`'s contract says of a result r and of what the buffer holds `now`, where it held `held`
+abbrev pub PointSaid : List Float → Float → List Float → List Float → PointResult → List Float → Type 0
+PointSaid x0 alpha d held r now =
+    (pointTold r now ≡ pointOf x0 alpha d (length held)) × (now ≡ heldAfter (pointOf x0 alpha d (length held)) held)

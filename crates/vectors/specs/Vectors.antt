@@ -1,17 +1,18 @@
--- 01, "Number rules", of vectors, with the refusals 1, 2 and 4 as the table "Numbers in, numbers refused" gives them to vectors.
+-- 01, "Number rules", of vectors, with the refusals 1, 2 and 4 as the table "Numbers in, numbers refused" gives them to
+-- vectors.
 use Prim.Native.Nat.{ℕ}
-use mathlib.Core.Bool.{Bool, true, _&&_}
+use mathlib.Core.Bool.{Bool, true, not, _&&_, _||_}
 use mathlib.Core.List.{List, [], _∷_, zipWith, foldl}
 use lib.ListN.{length}
-use lib.Dec.{leb, eqb}
+use lib.Dec.{ltb, eqb}
 use lib.Ieee.{Float}
 use lib.Ieee.Scale.{finite}
 use Rattle.floats.specs.Arithmetic.{_⊕_, _⊗_, 0ᶠ}
-use Rattle.numbers.specs.Results.{Result, value, refused, unless_refuse_else_}
+use Rattle.numbers.specs.Results.{Result, value, refused, Row, refuse_else_}
 
--- 01: "Vectors have n elements, 1 <= n <= 256."
-abbrev pub sized : ℕ → Bool
-sized n = leb 1 n && leb n 256
+-- 01: "Vectors have n elements, 1 <= n <= 256"; and in the table, 1: "n is 0, above 256 .."
+abbrev pub badLength : ℕ → Bool
+badLength n = eqb n 0 || ltb 256 n
 
 abbrev pub allFinite : List Float → Bool
 allFinite [] = true
@@ -27,13 +28,17 @@ abbrev pub leftSum : List Float → Float
 leftSum [] = 0ᶠ
 leftSum (p ∷ ps) = foldl _⊕_ p ps
 
+-- 01, the table, of a dot. 1: "n is 0, above 256, or lengths differ"; 2: "a supplied number is NaN or infinite";
+-- 4: "a dot .. comes out not finite"
+abbrev pub dotRows : List Float → List Float → List Row
+dotRows a b =
+    (1, badLength (length a) || not (eqb (length a) (length b)))
+    ∷ (2, not (allFinite a && allFinite b))
+    ∷ (4, not (finite (leftSum (products a b))))
+    ∷ []
+
 abbrev pub dotOf : List Float → List Float → Result Float
-dotOf a b =
-    let s = leftSum (products a b) in
-    unless (sized (length a) && eqb (length a) (length b)) refuse 1 else
-    unless (allFinite a && allFinite b) refuse 2 else
-    unless (finite s) refuse 4 else
-    value s
+dotOf a b = refuse (dotRows a b) else leftSum (products a b)
 
 -- ---- 01: "A point is x0[i] + alpha*d[i]."
 
@@ -43,13 +48,17 @@ movedBy alpha x d = x ⊕ alpha ⊗ d
 abbrev pub moved : List Float → Float → List Float → List Float
 moved x0 alpha d = zipWith (movedBy alpha) x0 d
 
--- the point, for a buffer of m elements
+-- 01, the table, of a point, for a buffer of m elements. 1 and 2 as for a dot; 4: "an element of a point .. comes out
+-- not finite"
+abbrev pub pointRows : List Float → Float → List Float → ℕ → List Row
+pointRows x0 alpha d m =
+    (1, badLength (length x0) || not (eqb (length x0) (length d) && eqb (length x0) m))
+    ∷ (2, not (finite alpha && allFinite x0 && allFinite d))
+    ∷ (4, not (allFinite (moved x0 alpha d)))
+    ∷ []
+
 abbrev pub pointOf : List Float → Float → List Float → ℕ → Result (List Float)
-pointOf x0 alpha d m =
-    unless (sized (length x0) && eqb (length x0) (length d) && eqb (length x0) m) refuse 1 else
-    unless (finite alpha && allFinite x0 && allFinite d) refuse 2 else
-    unless (allFinite (moved x0 alpha d)) refuse 4 else
-    value (moved x0 alpha d)
+pointOf x0 alpha d m = refuse (pointRows x0 alpha d m) else moved x0 alpha d
 
 -- 01, the table: a refusal leaves "buffers untouched"
 abbrev pub heldAfter : Result (List Float) → List Float → List Float

@@ -3,8 +3,8 @@
 ghost use mathlib.Core.Path.{_≡_};
 ghost use Prim.Native.Nat.{_<_};
 ghost use lib.ListN.{length};
-ghost use Rattle.vectors.specs.Vectors.{sized, allFinite, products, leftSum, moved, dotOf, pointOf, heldAfter};
-ghost use Rattle.vectors.specs.Told.{numberOf, dotTold, pointTold};
+ghost use Rattle.vectors.specs.Vectors.{badLength, allFinite, products, leftSum, moved};
+ghost use Rattle.vectors.specs.Told.{numberOf, DotSaid, PointSaid};
 
 // Why vectors are refused, in the order in which the reasons are tried.
 pub enum Refusal {
@@ -41,11 +41,11 @@ pub enum PointResult {
     Untouched(Refusal),
 }
 
-// Whether a vector may have n elements.
-fn is_sized(n: usize) -> bool
-    ensures { λ r. ⌜ r ≡ sized n ⌝ }
+// Whether a vector may not have n elements.
+fn bad_length(n: usize) -> bool
+    ensures { λ r. ⌜ r ≡ badLength n ⌝ }
 {
-    1 <= n && n <= 256
+    (n == 0) | (256 < n)
 }
 
 fn all_finite(xs: &[f64]) -> bool
@@ -76,10 +76,10 @@ fn left_sum(a: &[f64], b: &[f64]) -> f64
 
 // The sum of the products of a's elements with b's, added from the left.
 pub fn dot(a: &[f64], b: &[f64]) -> DotResult
-    ensures { λ r. ⌜ dotTold r ≡ dotOf (now (a .entry)) (now (b .entry)) ⌝ }
+    ensures { λ r. ⌜ DotSaid (now (a .entry)) (now (b .entry)) r ⌝ }
 {
     let n = a.len();
-    if !is_sized(n) {
+    if bad_length(n) {
         return DotResult::Refused(Refusal::Lengths);
     }
     if n != b.len() {
@@ -127,11 +127,10 @@ fn write_moved(x0: &[f64], alpha: f64, d: &[f64], out: &mut [f64])
 
 // Writes x0 + alpha * d to out, once every element of it is known to be finite.
 pub fn point(x0: &[f64], alpha: f64, d: &[f64], out: &mut [f64]) -> PointResult
-    ensures { λ r. ⌜ (pointTold r (now (out .exit)) ≡ pointOf (now (x0 .entry)) alpha (now (d .entry)) (length (now (out .entry))))
-        × (now (out .exit) ≡ heldAfter (pointOf (now (x0 .entry)) alpha (now (d .entry)) (length (now (out .entry)))) (now (out .entry))) ⌝ }
+    ensures { λ r. ⌜ PointSaid (now (x0 .entry)) alpha (now (d .entry)) (now (out .entry)) r (now (out .exit)) ⌝ }
 {
     let n = x0.len();
-    if !is_sized(n) {
+    if bad_length(n) {
         return PointResult::Untouched(Refusal::Lengths);
     }
     if n != d.len() {

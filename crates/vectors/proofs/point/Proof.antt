@@ -1,34 +1,39 @@
--- `vectors::point` meets its contract: each test that passed is the definition's, in its order, and the buffer is lent on only behind the last.
--- Assumes nothing.
+-- `vectors::point` meets its contract: each test is a row's or a part of one, in the rows' order, and the buffer is
+-- lent on only behind the last. Assumes nothing.
 use mathlib.Core.Path.{_≡_, sym, _∙_}
-use mathlib.Core.Bool.{true, _&&_}
+use mathlib.Core.Bool.{true, false, not, _&&_, _||_}
 use borrow.Author.Needs.{needs}
 use borrow.Author.Tests.{not-true, not-false, eq-eqb, ne-eqb}
 use lib.Dec.{eqb}
 use lib.ListN.{length}
 use lib.Ieee.Scale.{finite}
 use denote.Ref.{now}
-use Rattle.vectors.specs.Vectors.{sized, allFinite}
+use Rattle.vectors.specs.Vectors.{badLength, allFinite}
 use Rattle.vectors.proofs.point.Statement.{statement}
 use Rattle.vectors.proofs.point.Tie as tie
 
 -- what is known once a test has passed
-sized-ok : (c : tie.Else1) → sized (length (now (c .before .before .before .before .before .args .x0))) ≡ true
-sized-ok c = sym (c .before .is-sized .ensures) ∙ not-false _ (c .if1 .left)
+length-ok : (c : tie.Else1) → badLength (length (now (c .before .before .before .before .before .args .x0))) ≡ false
+length-ok c = sym (c .before .bad-length .ensures) ∙ c .if1 .left
 
 lengths-ok : (c : tie.Else3) → let s = c .before .before .before .before .before .before .before .args in
-    (sized (length (now (s .x0))) && eqb (length (now (s .x0))) (length (now (s .d))) && eqb (length (now (s .x0))) (length (now (s .out)))) ≡ true
+    let n = length (now (s .x0)) in
+    (badLength n || not (eqb n (length (now (s .d))) && eqb n (length (now (s .out))))) ≡ false
 lengths-ok c =
     let e2 = c .before in
-    rw (sized-ok (e2 .before), eq-eqb _ _ (e2 .if2 .left)) (eq-eqb _ _ (c .if3 .left))
+    rw (length-ok (e2 .before), eq-eqb _ _ (e2 .if2 .left), eq-eqb _ _ (c .if3 .left))
 
-alpha-ok : (c : tie.Else4) → finite (c .before .before .before .before .before .before .before .before .before .args .alpha) ≡ true
+alpha-ok : (c : tie.Else4) → let s = c .before .before .before .before .before .before .before .before .before .args in
+    finite (s .alpha) ≡ true
 alpha-ok c = sym (c .before .is-finite .ensures) ∙ not-false _ (c .if4 .left)
 
-x0-ok : (c : tie.Else5) → allFinite (now (c .before .before .before .before .before .before .before .before .before .before .before .args .x0)) ≡ true
+x0-ok : (c : tie.Else5) → let e4 = c .before .before in
+    let s = e4 .before .before .before .before .before .before .before .before .before .args in
+    allFinite (now (s .x0)) ≡ true
 x0-ok c = sym (c .before .all-finite .ensures) ∙ not-false _ (c .if5 .left)
 
-supplied-ok : (c : tie.Else6) → let s = c .before .before .before .before .before .before .before .before .before .before .before .before .before .args in
+supplied-ok : (c : tie.Else6) → let e4 = c .before .before .before .before in
+    let s = e4 .before .before .before .before .before .before .before .before .before .args in
     (finite (s .alpha) && allFinite (now (s .x0)) && allFinite (now (s .d))) ≡ true
 supplied-ok c =
     let e5 = c .before .before in
@@ -36,19 +41,19 @@ supplied-ok c =
 
 returns : tie.Need-returns
 returns c =
-    let f = sym (c .before .is-sized .ensures) ∙ not-true _ (c .if1 .taken) in
+    let f = sym (c .before .bad-length .ensures) ∙ c .if1 .taken in
     (rw f, rw f)
 
 returns-2 : tie.Need-returns-2
 returns-2 c =
-    let f = sized-ok (c .before) in
+    let f = length-ok (c .before) in
     let g = ne-eqb _ _ (c .if2 .taken) in
     (rw (f, g), rw (f, g))
 
 returns-3 : tie.Need-returns-3
 returns-3 c =
     let e2 = c .before in
-    let f = sized-ok (e2 .before) in
+    let f = length-ok (e2 .before) in
     let g = eq-eqb _ _ (e2 .if2 .left) in
     let h = ne-eqb _ _ (c .if3 .taken) in
     (rw (f, g, h), rw (f, g, h))
@@ -96,5 +101,5 @@ returns-8 c =
 
 pub point-spec : {M : Type 1} → statement M
 point-spec =
-    tie.close (tie.spec (λ c κs. tt) returns returns-2 returns-3 (λ c κs. tt) returns-4 (λ c κs. tt) returns-5 (λ c κs. tt) returns-6
-    (λ c κs. search needs) returns-7 (λ c κs. search needs) (λ c. search needs) returns-8)
+    tie.close (tie.spec (λ c κs. tt) returns returns-2 returns-3 (λ c κs. tt) returns-4 (λ c κs. tt) returns-5
+    (λ c κs. tt) returns-6 (λ c κs. search needs) returns-7 (λ c κs. search needs) (λ c. search needs) returns-8)
