@@ -5,7 +5,8 @@ use rules::Came;
 use rules::Further;
 use rules::Point;
 ghost use mathlib.Core.Path.{_≡_};
-ghost use Rattle.rules.specs.Rules.{updatedOf, middleOf, narrowedOf, secantOf, near, S2, S3, S4, orElse, L2};
+ghost use Rattle.rules.specs.Rules.{middleOf, narrowedOf, secantOf, near, S2, S3, S4, orElse, L2};
+ghost use Rattle.bracketing.specs.Decisions.{updatedOf};
 
 // U0 to U2; U3 goes on from the low end.
 pub fn updated(level: f64, w: Bracket, c: Point) -> Came

@@ -2,14 +2,14 @@
 -- holds has no NaN in it, so transitivity and what follows from a test that held ask nothing more; only the way from a test that FAILED to its
 -- converse asks that neither side is a NaN: at a NaN both tests fail, which is how an old order once stayed in force. -0 and +0 are level.
 -- Assumes nothing.
-use mathlib.Core.Path.{_≡_}
+use mathlib.Core.Path.{_≡_, refl}
 use mathlib.Core.Logic.{_⊎_, inl, inr}
 use mathlib.Core.Bool.{true, false, false≢true}
 use lib.Dec.{T-not}
-use lib.Ieee.{Float, nan, inf, fin, lt, le, eq, isNan}
+use lib.Ieee.{Float, nan, inf, fin, lt, le, eq, isNan, ofBits}
 use lib.Ieee.Bits.{is-true, is-false}
 use lib.Ieee.Scale.{finite}
-use Rattle.floats.specs.Arithmetic.{_<ᶠ_, _≤ᶠ_}
+use Rattle.floats.specs.Arithmetic.{_<ᶠ_, _≤ᶠ_, 0ᶠ}
 use Rattle.floats.proofs.Tests.{yes, no, yes-or-no, or-r, or-other}
 use Rattle.floats.proofs.Compare.{trans, excludes, converse, weaken, left-real, right-real}
 
@@ -19,6 +19,9 @@ unfolding isNan
 finite→real nan e = absurd (false≢true e)
 finite→real (inf s) e = is-false _ tt
 finite→real (fin s m d) e = is-false _ tt
+
+pub zero-real : isNan 0ᶠ ≡ false
+zero-real = finite→real 0ᶠ (unfold ofBits in refl)
 
 pub le→real-l : (x y : Float) → x ≤ᶠ y ≡ true → isNan x ≡ false
 le→real-l x y h = is-false (isNan x) (left-real x y (yes h))

@@ -7,10 +7,10 @@ use mathlib.Core.Path.{_≡_, refl, sym, _∙_}
 use mathlib.Core.Bool.{Bool, true, false, cond, _&&_, _||_, false≢true}
 use mathlib.Core.List.{List, [], _∷_}
 use mathlib.Core.Option.{Option, some, none}
-use lib.Ieee.{Float, ofBits, isNan}
+use lib.Ieee.{Float}
 use lib.Ieee.Scale.{finite}
 use Rattle.floats.specs.Arithmetic.{_<ᶠ_, _≤ᶠ_, _>ᶠ_, _≥ᶠ_, 0ᶠ}
-use Rattle.floats.proofs.Order.{finite→real, le→real-l, le→real-r, lt→le, nle→lt, le-refl, le-trans}
+use Rattle.floats.proofs.Order.{finite→real, zero-real, le→real-l, le→real-r, lt→le, nle→lt, le-refl, le-trans}
 use Rattle.outcomes.proofs.Branches.{and-second}
 use Rattle.rules.specs.declared.Point.{Point}
 use Rattle.rules.specs.declared.Bracket.{Bracket}
@@ -62,9 +62,6 @@ pub data SoundCame (L : Float) (w : Bracket) (asked : List Point) : Came → Typ
 -- an update comes to one of these, and never to the Rust's error
 pub data SoundUpdate (L : Float) (w : Bracket) (asked : List Point) : Option Came → Type 0 where
   reaches : {came : Came} → SoundCame L w asked came → SoundUpdate L w asked (some came)
-
-zero-real : isNan 0ᶠ ≡ false
-zero-real = finite→real 0ᶠ (unfold ofBits in refl)
 
 -- ---- a longer history
 from-more : {w : Bracket} {asked : List Point} {p : Point} (q : Point) → Came-from w asked p → Came-from w (q ∷ asked) p

@@ -3,10 +3,10 @@
 -- that error is `never-unreachable`, proofs/Demand3.antt.) From the order of finite floats. Assumes nothing.
 use mathlib.Core.Path.{_≡_, refl}
 use mathlib.Core.Bool.{Bool, true, false, cond, _&&_, true≢false, false≢true}
-use lib.Ieee.{Float, ofBits, isNan}
+use lib.Ieee.{Float}
 use lib.Ieee.Scale.{finite}
 use Rattle.floats.specs.Arithmetic.{_<ᶠ_, _≤ᶠ_, _>ᶠ_, _≥ᶠ_, 0ᶠ}
-use Rattle.floats.proofs.Order.{finite→real, le→nlt, nle→lt}
+use Rattle.floats.proofs.Order.{finite→real, zero-real, le→nlt, nle→lt}
 use Rattle.rules.specs.declared.Point.{Point}
 use Rattle.rules.specs.declared.Came.{Came}
 use Rattle.rules.specs.declared.Came.the-variants.{To, On}
@@ -17,9 +17,6 @@ pub rust-loop : Float → Point → Float → Point → Came
 rust-loop L h k d =
     cond (d .g ≥ᶠ 0ᶠ) (To (bracket h d))
     (On (cond (d .g <ᶠ 0ᶠ && d .f ≤ᶠ L) d h) (cond (d .g <ᶠ 0ᶠ && d .f >ᶠ L) (d .x) k))
-
-zero-real : isNan 0ᶠ ≡ false
-zero-real = finite→real 0ᶠ (unfold ofBits in refl)
 
 by-loop : (up down under over : Bool) (h d : Point) (k : Float)
     → (up ≡ false → down ≡ true) → (under ≡ false → over ≡ true) → (under ≡ true → over ≡ false)

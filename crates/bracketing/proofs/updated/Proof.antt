@@ -1,6 +1,6 @@
 -- `bracketing::updated` meets its contract. Assumes nothing.
 use Rattle.outcomes.proofs.Branches.{tests}
-use Rattle.rules.specs.Rules.{updatedOf}
+use Rattle.bracketing.specs.Decisions.{updatedOf}
 use Rattle.bracketing.proofs.updated.Statement.{statement}
 use Rattle.bracketing.proofs.updated.Tie as tie
 
