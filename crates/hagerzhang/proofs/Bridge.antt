@@ -1,22 +1,25 @@
 -- One answer to the machine is one answer to 01's rules: what the next state stands for is what the rules leave, and what is told is what they tell
--- (`answers`). Assumes nothing of the state but that its limit is a u32.
+-- (`answers`). Of the state only: its limit is a u32, and its L is no NaN.
 use mathlib.Core.Path.{_≡_, refl, ap, _∙_}
 use mathlib.Core.Bool.{Bool, true, false, cond, _&&_}
 use Prim.Native.Nat.{ℕ, zero, suc, _+_, _-_, _≤_, _<_}
 use native.Mathlib.Nat.{suc-ne-zero}
 use native.Mathlib.Omega.{arith}
 use lib.Dec.{leb, eqb}
-use lib.Ieee.{Float}
+use lib.Ieee.{Float, isNan}
 use lib.Ieee.Scale.{finite}
 use borrow.Author.Tests.{leb-true, leb-false, ne-eqb}
 use Rattle.floats.specs.Arithmetic.{_<ᶠ_}
-use Rattle.numbers.specs.Results.{value}
-use Rattle.outcomes.specs.Outcomes.{limit, told}
-use Rattle.outcomes.specs.Asking.{Search as Rest, over, keeping, respond, shown, onceTold}
+use Rattle.numbers.specs.Results.{Result, value, refused}
+use Rattle.outcomes.specs.Outcomes.{limit, refusal, Told, ends, told}
+use Rattle.outcomes.specs.Asking.{Search as Rest, over, keeping, respond, shown, firstOf, onceTold}
 use Rattle.outcomes.specs.Counters.{counted, evaluations, iterations}
-use Rattle.outcomes.proofs.Machines.{Seen, seen, picks, counts-on}
+use Rattle.outcomes.proofs.Machines.{Seen, seen, picks, picks-by, counts-on}
+use Rattle.outcomes.proofs.Refusals.{alike}
 use Rattle.outcomes.specs.declared.Evaluations.{Evaluations}
-use Rattle.outcomes.specs.declared.Refusal.the-variants.{SuppliedNotFinite, OutOfRange, ResultNotFinite}
+use Rattle.outcomes.proofs.Branches.{and-first, and-second}
+use Rattle.hagerzhang.specs.declared.Asked.{Asked}
+use Rattle.hagerzhang.specs.declared.Asked.the-variants.{Update, Between}
 use Rattle.rules.specs.declared.Point.{Point}
 use Rattle.rules.specs.declared.Bracket.{Bracket}
 use Rattle.rules.specs.declared.Options.{Options}
@@ -45,10 +48,82 @@ use Rattle.hagerzhang.specs.declared.Search.{Search}
 use Rattle.hagerzhang.specs.declared.Step.{Step}
 use Rattle.hagerzhang.specs.declared.Started.{Started}
 use Rattle.hagerzhang.specs.declared.Started.the-variants.{Began, NoSearch}
-use Rattle.rules.specs.Parameters.{suppliedFinite, inRanges, epsilonK, levelOf, setupOf}
-use Rattle.rules.specs.Rules.{point, answerFinite, middleOf, secantOf, S4, L2, bestOf, judgedOf, trial, between, U3, update, further, afterS4, afterS1, iteration, Report, reportOf, decided, verdict, rounds, askStart, askHigh, search}
-use Rattle.hagerzhang.specs.Machine.{tryAt, finishedOf, comesOf, leftOf, attemptOf, probeOf, testedOf, madeBy, triedBy, afterS4Of, afterS1Of, followBy, onwardOf, outlookBy, madeOf, settledOf, wentOf, reactOf, keptOf, takenOf, answerBy, answerOf, fresh, startOf}
-use Rattle.hagerzhang.specs.Meaning.{lastOf, keptReport, ended, afterTrial, onAnswer, askedStep, stepOf, meaning, meant, Starts, Follows}
+use Rattle.rules.specs.Parameters.{setupOf, startRows}
+use Rattle.rules.specs.Rules.{
+  point,
+  answerFinite,
+  middleOf,
+  secantOf,
+  S4,
+  L2,
+  bestOf,
+  judgedOf,
+  trial,
+  between,
+  U3,
+  updating,
+  update,
+  further,
+  afterS4,
+  afterS1,
+  iteration,
+  Report,
+  reportOf,
+  decided,
+  verdict,
+  rounds,
+  askStart,
+  askHigh,
+  search,
+}
+use Rattle.bracketing.proofs.Decides.{decides}
+use Rattle.hagerzhang.specs.Machine.{
+  tryAt,
+  finishedOf,
+  comesOf,
+  leftOf,
+  attemptOf,
+  probeOf,
+  testedOf,
+  madeBy,
+  triedBy,
+  afterS4Of,
+  afterS1Of,
+  followBy,
+  onwardOf,
+  outlookBy,
+  madeOf,
+  settledOf,
+  wentOf,
+  runningOf,
+  reactOf,
+  keptOf,
+  stepAsked,
+  stepOf,
+  takenOf,
+  answerBy,
+  answerOf,
+  fresh,
+  startOf,
+  startedTold,
+  StartSaid,
+  AnswerSaid,
+}
+use Rattle.hagerzhang.specs.Meaning.{
+  lastOf,
+  keptReport,
+  ended,
+  afterTrial,
+  onAsked,
+  onAnswer,
+  meaning,
+  meant,
+  startTold,
+  startSays,
+  begun,
+  Starts,
+  Follows,
+}
 
 denote : Setup → Next → Seen Report
 denote s n = (meaning s (n .stage), told (n .outcome))
@@ -73,7 +148,7 @@ module _ (s : Setup) (fin : Finished) where
 
   -- a trial (5)
   tries : (rule : Rule) (w : Bracket) (x : Float) → moved (tryAt w rule x) ≡ seen (trial s (keeping k) k x (λ c. update s (keeping k) k w c (afterTrial s fin rule x)))
-  unfolding attemptOf testedOf madeBy trial onAnswer comesOf leftOf keptOf stepOf askedStep keptReport denote seen onceTold shown meaning
+  unfolding attemptOf testedOf madeBy trial onAnswer onAsked keptOf stepOf stepAsked keptReport denote seen onceTold shown meaning
   tries rule w x = picks put (finite x) _ _ _ _ refl refl
 
 -- ---- the start or an iteration is finished: the verdict, the limit, and S1 of the next iteration
@@ -161,7 +236,7 @@ module _ (s : Setup) (h : s .options .limit < 4294967296) (fin : Finished) where
 
     -- U3 while n answers may come
     narrows : (n : ℕ) (came : Came) → went s fin (onwardOf gamma (fin .bracket) t n came) ≡ seen (U3 s (keeping (lastOf fin)) (lastOf fin) n came goes-on)
-    unfolding onwardOf wentOf probeOf testedOf madeBy U3 between meaning onAnswer comesOf leftOf keptOf stepOf askedStep keptReport denote seen onceTold shown
+    unfolding onwardOf wentOf probeOf testedOf madeBy U3 between meaning onAnswer onAsked keptOf stepOf stepAsked keptReport denote seen onceTold shown
     narrows zero (To u) = follows-on (t .rule) (t .x) u
     narrows zero (On a k') = refl
     narrows (suc n) (To u) = follows-on (t .rule) (t .x) u
@@ -171,41 +246,51 @@ module _ (s : Setup) (h : s .options .limit < 4294967296) (fin : Finished) where
         let z : eqb (suc n) 0 ≡ false = ne-eqb (suc n) 0 (λ (p : suc n ≡ 0). suc-ne-zero n p) in
         rw (e, z) (picks (put s fin) (finite x) _ _ _ _ (picks (put s fin) (a .x <ᶠ x && x <ᶠ k') _ _ _ _ refl refl) refl)
 
-module _ (s : Setup) (h : s .options .limit < 4294967296) where
+  -- an answer to a trial, and to U3's step
+  runs : isNan (s .level) ≡ false → (t : Trial) (asked : Asked) (f g : Float) → finite f ≡ true → finite g ≡ true
+      → denote s (runningOf s fin t asked f g) ≡ seen (onAsked s fin t asked f g)
+  unfolding onAsked comesOf leftOf updating
+  runs real t (Update w) f g ff fg = rw (decides (s .level) w (point (t .x) f g) real ff fg) (narrows t (s .options .budget) _)
+  runs real t (Between e) f g ff fg = narrows t (e .left) _
+
+module _ (s : Setup) (h : s .options .limit < 4294967296) (real : isNan (s .level) ≡ false) where
   starts-rounds : (w : Bracket) (c : Point) → denote s (settledOf s w c (iterations 0)) ≡ seen (rounds s (s .options .limit) w c 0)
   starts-rounds w c = let e : s .options .limit - 0 ≡ s .options .limit = omega arith in rw e at (settles s h w c 0)
 
   -- every finite answer
-  reacts : (waiting : Waiting) (f g : Float) → denote s (reactOf s waiting f g) ≡ seen (onAnswer s waiting f g)
+  reacts : (waiting : Waiting) (f g : Float) → finite f ≡ true → finite g ≡ true → denote s (reactOf s waiting f g) ≡ seen (onAnswer s waiting f g)
   unfolding reactOf onAnswer
-  reacts Low f g = unfold askHigh keptOf stepOf keptReport denote seen onceTold shown meaning in refl
-  reacts (High a) f g = unfold askStart keptOf stepOf keptReport denote seen onceTold shown meaning in refl
-  reacts (Start w) f g = starts-rounds w (point (s .options .params .start) f g)
-  reacts (Running fin t asked) f g = narrows s h fin t (leftOf (s .options .budget) asked) (comesOf (s .level) t asked f g)
+  reacts Low f g ff fg = unfold askHigh keptOf stepOf keptReport denote seen onceTold shown meaning in refl
+  reacts (High a) f g ff fg = unfold askStart keptOf stepOf keptReport denote seen onceTold shown meaning in refl
+  reacts (Start w) f g ff fg = starts-rounds w (point (s .options .params .start) f g)
+  reacts (Running fin t asked) f g ff fg = runs s h fin real t asked f g ff fg
 
   answered : (n : Evaluations) (waiting : Waiting) (f g : Float) → denoteStep (takenOf s n waiting f g) ≡ seen (respond (meaning s (Open waiting)) f g)
   unfolding takenOf respond denote denoteStep seen onceTold shown meaning
-  answered n waiting f g = picks denoteStep (answerFinite f g) _ _ _ _ (reacts waiting f g) refl
-
-answers-by : (s : Search) → s .setup .options .limit < 4294967296 → (f g : Float) (stage : Stage) → s .stage ≡ stage
-    → denoteStep (answerBy s f g stage) ≡ seen (respond (meaning (s .setup) stage) f g)
-unfolding answerBy
-answers-by s h f g (Open waiting) e = answered (s .setup) h (s .evaluations) waiting f g
-answers-by s h f g (Over kept) e = unfold denoteStep seen respond onceTold shown meaning in rw e
+  answered n waiting f g =
+      picks-by denoteStep (answerFinite f g) _ _ _ _
+      (λ e. reacts waiting f g (and-first (finite f) (finite g) e) (and-second (finite f) (finite g) e)) (λ e. refl)
 
 -- every answer to every state
-answers : (s : Search) → s .setup .options .limit < 4294967296 → (f g : Float) → denoteStep (answerOf s f g) ≡ seen (respond (meant s) f g)
-answers s h f g = answers-by s h f g (s .stage) refl
+module _ (s : Search) (h : s .setup .options .limit < 4294967296) (real : isNan (s .setup .level) ≡ false) (f g : Float) where
+  answers-by : (stage : Stage) → s .stage ≡ stage → denoteStep (answerBy s f g stage) ≡ seen (respond (meaning (s .setup) stage) f g)
+  unfolding answerBy
+  answers-by (Open waiting) e = answered (s .setup) h real (s .evaluations) waiting f g
+  answers-by (Over kept) e = unfold denoteStep seen respond onceTold shown meaning in rw e
 
-pub follows : (s : Search) → s .setup .options .limit < 4294967296 → (f g : Float) (r : Step) → r ≡ answerOf s f g → Follows s f g r
-unfolding denoteStep seen
-follows s h f g r e =
-    let z = ap denoteStep e ∙ answers s h f g in
-    record { tells = ap (λ (p : Seen Report). p .1) z; leaves = ap (λ (p : Seen Report). p .0) z }
+  answers : denoteStep (answerOf s f g) ≡ seen (respond (meant s) f g)
+  answers = answers-by (s .stage) refl
+
+  pub follows : (r : Step) → AnswerSaid s f g r → Follows s f g r
+  unfolding denoteStep seen
+  follows r e =
+      let z = ap denoteStep e ∙ answers in
+      record { tells = ap (λ (p : Seen Report). p .1) z; leaves = ap (λ (p : Seen Report). p .0) z }
 
 -- what `answer` promises of its result
-pub promised : (s : Search) (f g : Float) (r : Step) → r ≡ answerOf s f g → (r ≡ answerOf s f g) × (s .setup .options .limit < 4294967296 → Follows s f g r)
-promised s f g r e = (e, λ h. follows s h f g r e)
+pub promised : (s : Search) (f g : Float) → s .setup .options .limit < 4294967296 → (r : Step) → AnswerSaid s f g r
+    → AnswerSaid s f g r × (isNan (s .setup .level) ≡ false → Follows s f g r)
+promised s f g h r e = (e, λ real. follows s h real f g r e)
 
 -- ---- `start`
 pub starts-whole : (s : Setup) → meaning s (Open Low) ≡ search s
@@ -216,32 +301,34 @@ first-asked : (s : Setup) → told (fresh s .outcome) ≡ shown (search s)
 unfolding shown search
 first-asked s = refl
 
--- the ways of a start, by the tests that lead there
-pub data Begins (o : Options) (f0 s0 : Float) : Started → Type 0 where
-  began : suppliedFinite o f0 s0 ≡ true → inRanges o ≡ true → (finite (epsilonK o f0) && finite (levelOf o f0)) ≡ true → Begins o f0 s0 (Began (fresh (setupOf o f0 s0)))
-  not-finite : suppliedFinite o f0 s0 ≡ false → Begins o f0 s0 (NoSearch SuppliedNotFinite)
-  out-of-range : suppliedFinite o f0 s0 ≡ true → inRanges o ≡ false → Begins o f0 s0 (NoSearch OutOfRange)
-  level-not-finite : suppliedFinite o f0 s0 ≡ true → inRanges o ≡ true → (finite (epsilonK o f0) && finite (levelOf o f0)) ≡ false → Begins o f0 s0 (NoSearch ResultNotFinite)
+-- what a result of a start stands for, and what it says
+unfoldable pub stands : Result Step → Result (Rest Report)
+stands (value t) = value (meant (t .search))
+stands (refused n) = refused n
 
-pub ways : (o : Options) (f0 s0 : Float) → Begins o f0 s0 (startOf o f0 s0)
-ways o f0 s0 = by (suppliedFinite o f0 s0) (inRanges o) (finite (epsilonK o f0) && finite (levelOf o f0)) refl refl refl
-  where
-    by : (a b d : Bool) → suppliedFinite o f0 s0 ≡ a → inRanges o ≡ b → (finite (epsilonK o f0) && finite (levelOf o f0)) ≡ d
-        → Begins o f0 s0 (cond a (cond b (cond d (Began (fresh (setupOf o f0 s0))) (NoSearch ResultNotFinite)) (NoSearch OutOfRange)) (NoSearch SuppliedNotFinite))
-    by true true true p q l = began p q l
-    by true true false p q l = level-not-finite p q l
-    by true false d p q l = out-of-range p q
-    by false b d p q l = not-finite p
+unfoldable pub says : Result Step → Told
+says (value t) = told (t .outcome)
+says (refused n) = ends (refusal n)
 
-as-rules : (o : Options) (f0 s0 : Float) {r : Started} → Begins o f0 s0 r → Starts o f0 s0 r
-as-rules o f0 s0 (began p q l) = record { stands-for = rw (p, q, l) (ap value (starts-whole (setupOf o f0 s0))); tells-first = rw (p, q, l) (first-asked (setupOf o f0 s0)) }
-as-rules o f0 s0 (not-finite p) = record { stands-for = rw p; tells-first = rw p }
-as-rules o f0 s0 (out-of-range p q) = record { stands-for = rw (p, q); tells-first = rw (p, q) }
-as-rules o f0 s0 (level-not-finite p q l) = record { stands-for = rw (p, q, l); tells-first = rw (p, q, l) }
+-- both are the rules'
+module _ (o : Options) (f0 s0 : Float) where
+  start-stands : stands (startOf o f0 s0) ≡ begun o f0 s0
+  unfolding stands
+  start-stands =
+      let s = setupOf o f0 s0 in
+      alike stands (λ v. v) (λ n. refl) (fresh s) (search s) (ap value (starts-whole s)) (startRows o f0 s0)
 
-pub starts : (o : Options) (f0 s0 : Float) (r : Started) → r ≡ startOf o f0 s0 → Starts o f0 s0 r
-starts o f0 s0 r e = rw e (as-rules o f0 s0 (ways o f0 s0))
+  start-says : says (startOf o f0 s0) ≡ firstOf (begun o f0 s0)
+  unfolding says
+  start-says =
+      let s = setupOf o f0 s0 in
+      alike says firstOf (λ n. refl) (fresh s) (search s) (first-asked s) (startRows o f0 s0)
 
--- what `start` promises of its result
-pub start-promised : (o : Options) (f0 s0 : Float) (r : Started) → r ≡ startOf o f0 s0 → (r ≡ startOf o f0 s0) × Starts o f0 s0 r
-start-promised o f0 s0 r e = (e, starts o f0 s0 r e)
+  pub starts : (r : Started) → StartSaid o f0 s0 r → Starts o f0 s0 r
+  unfolding stands says
+  starts (Began t) e = record { stands-for = ap stands e ∙ start-stands; tells-first = ap says e ∙ start-says }
+  starts (NoSearch k) e = record { stands-for = ap stands e ∙ start-stands; tells-first = ap says e ∙ start-says }
+
+  -- what `start` promises of its result
+  pub start-promised : (r : Started) → StartSaid o f0 s0 r → StartSaid o f0 s0 r × Starts o f0 s0 r
+  start-promised r e = (e, starts r e)

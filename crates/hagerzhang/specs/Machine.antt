@@ -1,18 +1,20 @@
--- The machine's own bookkeeping, which the contracts cite. 01's rules are checked without it: specs/Meaning.antt says what a state stands for in them,
--- proofs/Bridge.antt that every step is the rules' step, and demands/proofs/Demand2.antt the same for any list of answers. demands/specs/HagerZhangRefusals.antt
--- speaks of the move that it makes due, so as to say of any state when it is refused.
+-- The machine's own bookkeeping, which the contracts cite: nobody needs this to check 01. specs/Meaning.antt says what a state stands for in 01's
+-- rules, proofs/Bridge.antt that every step is the rules' step, and demands/proofs/Demand2.antt the same for any list of answers.
 use Prim.Native.Nat.{ℕ, _-_}
+use mathlib.Core.Path.{_≡_}
 use mathlib.Core.Bool.{cond, _&&_}
 use lib.Dec.{leb, eqb}
 use lib.Ieee.{Float}
 use lib.Ieee.Scale.{finite}
 use Rattle.floats.specs.Arithmetic.{_<ᶠ_}
+use Rattle.numbers.specs.Results.{Result, value, refused, refuse_else_}
+use Rattle.outcomes.specs.Outcomes.{numberOf}
 use Rattle.outcomes.specs.declared.Evaluations.{Evaluations}
 use Rattle.outcomes.specs.declared.Iterations.{Iterations}
 use Rattle.outcomes.specs.declared.Outcome.{Outcome}
 use Rattle.outcomes.specs.declared.Outcome.the-variants.{Ask, Stop, Limit, Refused}
 use Rattle.outcomes.specs.declared.Refusal.{Refusal}
-use Rattle.outcomes.specs.declared.Refusal.the-variants.{SuppliedNotFinite, OutOfRange, ResultNotFinite, StepNotFinite, BudgetSpent, StepNotBetween, AlreadyOver}
+use Rattle.outcomes.specs.declared.Refusal.the-variants.{SuppliedNotFinite, StepNotFinite, BudgetSpent, StepNotBetween, AlreadyOver}
 use Rattle.outcomes.specs.Counters.{counted, evaluations, iterations}
 use Rattle.rules.specs.declared.Point.{Point}
 use Rattle.rules.specs.declared.Bracket.{Bracket}
@@ -33,6 +35,8 @@ use Rattle.hagerzhang.specs.declared.Trial.{Trial}
 use Rattle.hagerzhang.specs.declared.Ends.{Ends}
 use Rattle.hagerzhang.specs.declared.Asked.{Asked}
 use Rattle.hagerzhang.specs.declared.Asked.the-variants.{Update, Between}
+use Rattle.hagerzhang.specs.declared.Due.{Due}
+use Rattle.hagerzhang.specs.declared.Due.the-variants.{Step as StepAt, Nothing as NoStep}
 use Rattle.hagerzhang.specs.declared.Waiting.{Waiting}
 use Rattle.hagerzhang.specs.declared.Waiting.the-variants.{Low, High, Start, Running}
 use Rattle.hagerzhang.specs.declared.Stage.{Stage}
@@ -48,8 +52,9 @@ use Rattle.hagerzhang.specs.declared.Search.{Search}
 use Rattle.hagerzhang.specs.declared.Step.{Step}
 use Rattle.hagerzhang.specs.declared.Started.{Started}
 use Rattle.hagerzhang.specs.declared.Started.the-variants.{Began, NoSearch}
-use Rattle.rules.specs.Parameters.{suppliedFinite, inRanges, epsilonK, levelOf, setupOf}
-use Rattle.rules.specs.Rules.{point, bracket, answerFinite, updatedOf, middleOf, narrowedOf, secantOf, S4, L2, bestOf, judgedOf}
+use Rattle.rules.specs.Parameters.{setupOf, startRows}
+use Rattle.rules.specs.Rules.{point, bracket, answerFinite, middleOf, narrowedOf, secantOf, S4, L2, bestOf, judgedOf}
+use Rattle.bracketing.specs.Decisions.{updatedOf}
 
 -- ---- what is asked, and how a search ends
 
@@ -100,7 +105,8 @@ madeOf theta last m = madeBy last (testedOf theta (last .best .x) m)
 unfoldable pub outlookBy : Setup → Finished → Judged → Move
 outlookBy s last (Holds v) = ByVerdict v
 outlookBy s last Fails =
-    cond (leb (s .options .limit) (last .iterations .0)) ByLimit (tryAt (last .bracket) ByS1 (secantOf (last .bracket .a) (last .bracket .b)))
+    cond (leb (s .options .limit) (last .iterations .0)) ByLimit
+    (tryAt (last .bracket) ByS1 (secantOf (last .bracket .a) (last .bracket .b)))
 
 abbrev pub outlookOf : Setup → Finished → Move
 outlookOf s last = outlookBy s last (judgedOf s (last .best))
@@ -163,11 +169,39 @@ reactOf s (High a) f g = asking (Start (bracket a (point (s .options .params .ma
 reactOf s (Start w) f g = settledOf s w (point (s .options .params .start) f g) (iterations 0)
 reactOf s (Running last t asked) f g = runningOf s last t asked f g
 
+-- ---- what a state holds: bracket, best and iterations, or none yet; and the step at which an answer is awaited
+
 unfoldable pub keptOf : Waiting → Kept
 keptOf Low = NoneYet
 keptOf (High a) = NoneYet
 keptOf (Start w) = NoneYet
 keptOf (Running last t asked) = Last last
+
+unfoldable pub keptAt : Stage → Kept
+keptAt (Open waiting) = keptOf waiting
+keptAt (Over kept) = kept
+
+abbrev pub keptIn : Search → Kept
+keptIn s = keptAt (s .stage)
+
+unfoldable pub stepAsked : Trial → Asked → Float
+stepAsked t (Update w) = t .x
+stepAsked t (Between e) = e .d
+
+unfoldable pub stepOf : Setup → Waiting → Float
+stepOf s Low = s .options .params .min
+stepOf s (High a) = s .options .params .max
+stepOf s (Start w) = s .options .params .start
+stepOf s (Running last t asked) = stepAsked t asked
+
+unfoldable pub dueAt : Setup → Stage → Due
+dueAt s (Open waiting) = StepAt (stepOf s waiting)
+dueAt s (Over kept) = NoStep
+
+abbrev pub dueIn : Search → Due
+dueIn s = dueAt (s .setup) (s .stage)
+
+-- ---- an answer, taken
 
 abbrev pub stepTo : Setup → Evaluations → Next → Step
 stepTo s n to = record { search = record { setup = s; evaluations = n; stage = to .stage }; outcome = to .outcome }
@@ -189,11 +223,17 @@ answerOf s f g = answerBy s f g (s .stage)
 abbrev pub fresh : Setup → Step
 fresh s = stepTo s (evaluations 0) (asking Low (s .options .params .min))
 
-abbrev pub startOf : Options → Float → Float → Started
-startOf o f0 s0 =
-    cond (suppliedFinite o f0 s0)
-    (cond (inRanges o)
-    (cond (finite (epsilonK o f0) && finite (levelOf o f0)) (Began (fresh (setupOf o f0 s0)))
-    (NoSearch ResultNotFinite))
-    (NoSearch OutOfRange))
-    (NoSearch SuppliedNotFinite)
+abbrev pub startOf : Options → Float → Float → Result Step
+startOf o f0 s0 = refuse (startRows o f0 s0) else fresh (setupOf o f0 s0)
+
+abbrev pub startedTold : Started → Result Step
+startedTold (Began r) = value r
+startedTold (NoSearch k) = refused (numberOf k)
+
+-- ---- what the contracts say of a result
+
+abbrev pub StartSaid : Options → Float → Float → Started → Type 0
+StartSaid o f0 s0 r = startedTold r ≡ startOf o f0 s0
+
+abbrev pub AnswerSaid : Search → Float → Float → Step → Type 0
+AnswerSaid s f g r = r ≡ answerOf s f g

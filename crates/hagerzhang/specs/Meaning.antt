@@ -2,8 +2,9 @@
 use Prim.Native.Nat.{_-_}
 use mathlib.Core.Path.{_≡_}
 use lib.Ieee.{Float}
-use Rattle.numbers.specs.Results.{Result, value, refused}
-use Rattle.outcomes.specs.Outcomes.{refusal, Told, ends, numberOf, told}
+use mathlib.Core.Option.{Option, some, none}
+use Rattle.numbers.specs.Results.{Result, value, refused, refuse_else_}
+use Rattle.outcomes.specs.Outcomes.{refusal, Told, ends, alreadyOver, numberOf, told}
 use Rattle.outcomes.specs.Asking.{Search as Rest, over, keeping, question, respond, shown, firstOf, onceTold}
 use Rattle.outcomes.specs.Counters.{counted}
 use Rattle.rules.specs.declared.Bracket.{Bracket}
@@ -17,6 +18,8 @@ use Rattle.hagerzhang.specs.declared.Rule.the-variants.{S1, S4, L2}
 use Rattle.hagerzhang.specs.declared.Trial.{Trial}
 use Rattle.hagerzhang.specs.declared.Asked.{Asked}
 use Rattle.hagerzhang.specs.declared.Asked.the-variants.{Update, Between}
+use Rattle.hagerzhang.specs.declared.Due.{Due}
+use Rattle.hagerzhang.specs.declared.Due.the-variants.{Step as StepAt, Nothing as NoStep}
 use Rattle.hagerzhang.specs.declared.Waiting.{Waiting}
 use Rattle.hagerzhang.specs.declared.Waiting.the-variants.{Low, High, Start, Running}
 use Rattle.hagerzhang.specs.declared.Stage.{Stage}
@@ -25,9 +28,24 @@ use Rattle.hagerzhang.specs.declared.Search.{Search}
 use Rattle.hagerzhang.specs.declared.Step.{Step}
 use Rattle.hagerzhang.specs.declared.Started.{Started}
 use Rattle.hagerzhang.specs.declared.Started.the-variants.{Began, NoSearch}
-use Rattle.rules.specs.Parameters.{admitted}
-use Rattle.rules.specs.Rules.{point, answerFinite, Report, noneYet, last, U3, afterS1, afterS4, rounds, askStart, askHigh, search}
-use Rattle.hagerzhang.specs.Machine.{comesOf, leftOf, keptOf}
+use Rattle.rules.specs.Parameters.{setupOf, startRows}
+use Rattle.rules.specs.Rules.{
+  point,
+  answerFinite,
+  narrowedOf,
+  Report,
+  noneYet,
+  last,
+  U3,
+  update,
+  afterS1,
+  afterS4,
+  rounds,
+  askStart,
+  askHigh,
+  search,
+}
+use Rattle.hagerzhang.specs.Machine.{keptOf, keptIn, stepOf}
 
 -- ---- what a state reports
 
@@ -38,13 +56,14 @@ unfoldable pub keptReport : Kept → Report
 keptReport NoneYet = noneYet
 keptReport (Last fin) = lastOf fin
 
-unfoldable pub stageReport : Stage → Report
-stageReport (Open waiting) = keptReport (keptOf waiting)
-stageReport (Over kept) = keptReport kept
-
 -- bracket, best and finished iterations, or none yet
 abbrev pub report : Search → Report
-report s = stageReport (s .stage)
+report s = keptReport (keptIn s)
+
+-- the step at which an answer is awaited
+abbrev pub dueTold : Due → Option Float
+dueTold (StepAt x) = some x
+dueTold NoStep = none
 
 -- ---- the search that is left
 
@@ -59,30 +78,23 @@ module _ (s : Setup) (fin : Finished) where
   afterTrial S4 c u = afterS4 s (keeping (lastOf fin)) (lastOf fin) (fin .bracket) u ended
   afterTrial L2 c u = ended u
 
-  abbrev pub onAsked : Trial → Asked → Float → Float → Rest Report
-  onAsked t asked f g =
-      U3 s (keeping (lastOf fin)) (lastOf fin) (leftOf (s .options .budget) asked) (comesOf (s .level) t asked f g) (afterTrial (t .rule) (t .x))
+  -- what a finite answer leads to: to the trial itself, or to U3's step
+  unfoldable pub onAsked : Trial → Asked → Float → Float → Rest Report
+  onAsked t (Update w) f g = update s (keeping (lastOf fin)) (lastOf fin) w (point (t .x) f g) (afterTrial (t .rule) (t .x))
+  onAsked t (Between e) f g =
+      U3 s (keeping (lastOf fin)) (lastOf fin) (e .left) (narrowedOf (s .level) (e .h) (e .k) (point (e .d) f g)) (afterTrial (t .rule) (t .x))
 
--- what a finite answer leads to, and the step that is asked
 unfoldable pub onAnswer : Setup → Waiting → Float → Float → Rest Report
 onAnswer s Low f g = askHigh s (point (s .options .params .min) f g)
 onAnswer s (High a) f g = askStart s (record { a = a; b = point (s .options .params .max) f g })
 onAnswer s (Start w) f g = rounds s (s .options .limit) w (point (s .options .params .start) f g) 0
 onAnswer s (Running fin t asked) f g = onAsked s fin t asked f g
 
-unfoldable pub askedStep : Trial → Asked → Float
-askedStep t (Update w) = t .x
-askedStep t (Between e) = e .d
-
-unfoldable pub stepOf : Setup → Waiting → Float
-stepOf s Low = s .options .params .min
-stepOf s (High a) = s .options .params .max
-stepOf s (Start w) = s .options .params .start
-stepOf s (Running fin t asked) = askedStep t asked
-
 unfoldable pub meaning : Setup → Stage → Rest Report
-meaning s (Open waiting) = question answerFinite (keeping (keptReport (keptOf waiting))) (keptReport (keptOf waiting)) (stepOf s waiting) (onAnswer s waiting)
-meaning s (Over kept) = over (keptReport kept) (refusal 8)
+meaning s (Open waiting) =
+    let kept = keptReport (keptOf waiting) in
+    question answerFinite (keeping kept) kept (stepOf s waiting) (onAnswer s waiting)
+meaning s (Over kept) = over (keptReport kept) (refusal alreadyOver)
 
 abbrev pub meant : Search → Rest Report
 meant s = meaning (s .setup) (s .stage)
@@ -93,9 +105,8 @@ abbrev pub startTold : Started → Result (Rest Report)
 startTold (Began r) = value (meant (r .search))
 startTold (NoSearch k) = refused (numberOf k)
 
-abbrev pub begun : Result Setup → Result (Rest Report)
-begun (value s) = value (search s)
-begun (refused n) = refused n
+abbrev pub begun : Options → Float → Float → Result (Rest Report)
+begun o f0 s0 = refuse (startRows o f0 s0) else search (setupOf o f0 s0)
 
 -- what a start says: the first step, or the refusal
 abbrev pub startSays : Started → Told
@@ -103,8 +114,8 @@ startSays (Began r) = told (r .outcome)
 startSays (NoSearch k) = ends (refusal (numberOf k))
 
 pub record Starts (o : Options) (f0 s0 : Float) (r : Started) : Type 0 where
-  pub stands-for : startTold r ≡ begun (admitted o f0 s0)
-  pub tells-first : startSays r ≡ firstOf (begun (admitted o f0 s0))
+  pub stands-for : startTold r ≡ begun o f0 s0
+  pub tells-first : startSays r ≡ firstOf (begun o f0 s0)
 
 -- ---- `answer`: what is told is what the rules tell at this answer, and what is left is what they leave
 

@@ -11,9 +11,13 @@ use rules::Options;
 use rules::Point;
 use rules::Setup;
 ghost use mathlib.Core.Path.{_≡_};
-ghost use Prim.Native.Nat.{_<_};
-ghost use Rattle.hagerzhang.specs.Machine.{fresh, startOf, asking, ending, stepTo, reactOf, keptOf, takenOf, answerOf};
-ghost use Rattle.hagerzhang.specs.Meaning.{Starts, Follows};
+ghost use mathlib.Core.Bool.{false};
+ghost use lib.Ieee.{isNan};
+ghost use Rattle.outcomes.specs.Asking.{reported, awaits};
+ghost use Rattle.outcomes.specs.Counters.{iterations};
+ghost use Rattle.rules.specs.Rules.{iterationsIn};
+ghost use Rattle.hagerzhang.specs.Machine.{fresh, StartSaid, AnswerSaid, asking, ending, stepTo, reactOf, keptOf, keptIn, stepAsked, stepOf, dueIn, takenOf};
+ghost use Rattle.hagerzhang.specs.Meaning.{keptReport, dueTold, meant, Starts, Follows};
 
 mod iteration; // the way of an answer in an iteration, up to a move or its end
 mod moves; // the end of an iteration, and a move made
@@ -60,6 +64,12 @@ pub enum Asked {
     Between(Ends),
 }
 
+// The step at which an answer is awaited, if there is one.
+pub enum Due {
+    Step(f64),
+    Nothing,
+}
+
 // What the search waits for: the answers of the start, or one in an iteration.
 pub enum Waiting {
     Low,
@@ -94,9 +104,9 @@ struct Next {
     outcome: Outcome,
 }
 
-// What is due next: a trial's step, a step of U3 between h and k while so many answers may come, or the end by a verdict or the limit. (Public, as is Then, so that
-// the table of refusals in crates/demands can name it.)
-pub enum Move {
+// What is due next: a trial's step, a step of U3 between h and k while so many answers may come, or the end by a
+// verdict or the limit.
+enum Move {
     Try(Bracket, Trial),
     Narrow(Trial, Point, f64, u32),
     Stop(Verdict),
@@ -104,7 +114,7 @@ pub enum Move {
 }
 
 // What follows in the iteration: a move, or its end with a bracket.
-pub enum Then {
+enum Then {
     Go(Move),
     Close(Bracket),
 }
@@ -113,7 +123,7 @@ pub enum Then {
 
 // A search that asks the low bound first, for cost f0 and slope s0 at step 0; or why there is none.
 pub fn start(o: Options, f0: f64, s0: f64) -> Started
-    ensures exact { λ r. ⌜ r ≡ startOf o f0 s0 ⌝ }
+    ensures exact { λ r. ⌜ StartSaid o f0 s0 r ⌝ }
     ensures rules { λ r. ⌜ Starts o f0 s0 r ⌝ }
 {
     if !parameters::supplied_finite(o, f0, s0) {
@@ -144,10 +154,11 @@ fn fresh_search(s: Setup) -> Step
 
 // ---- the way of an answer
 
-// One answer, cost f and slope g: the search with it, and what comes next. It is the step that 01's rules take (the limit is below 2^32, as every u32 is).
+// One answer, cost f and slope g: the search with it, and what comes next. It is the step that 01's rules take, of
+// any state whose L is no NaN.
 pub fn answer(s: Search, f: f64, g: f64) -> Step
-    ensures exact { λ r. ⌜ r ≡ answerOf s f g ⌝ }
-    ensures rules { λ r. ⌜ (s .setup .options .limit < 4294967296 → Follows s f g r) ⌝ }
+    ensures exact { λ r. ⌜ AnswerSaid s f g r ⌝ }
+    ensures rules { λ r. ⌜ (isNan (s .setup .level) ≡ false → Follows s f g r) ⌝ }
 {
     let stage = s.stage;
     match stage {
@@ -186,7 +197,66 @@ fn react(s: Setup, waiting: Waiting, f: f64, g: f64) -> Next
     }
 }
 
-// What is kept when an answer is not finite (2).
+// ---- what a search holds
+
+// Bracket, best and iterations of the last finished iteration, or of the start; none yet during the first three answers.
+pub fn held(s: Search) -> Kept
+    ensures exact { λ r. ⌜ r ≡ keptIn s ⌝ }
+    ensures rules { λ r. ⌜ keptReport r ≡ reported (meant s) ⌝ }
+{
+    let stage = s.stage;
+    match stage {
+        Stage::Open(waiting) => keeps(waiting),
+        Stage::Over(kept) => kept,
+    }
+}
+
+impl Kept {
+    // The finished iterations.
+    pub fn iterations(self) -> Iterations
+        ensures { λ r. ⌜ r ≡ iterations (iterationsIn (keptReport self)) ⌝ }
+    {
+        match self {
+            Kept::NoneYet => Iterations(0),
+            Kept::Last(last) => last.iterations,
+        }
+    }
+}
+
+// The step at which an answer is awaited.
+pub fn awaited(s: Search) -> Due
+    ensures exact { λ r. ⌜ r ≡ dueIn s ⌝ }
+    ensures rules { λ r. ⌜ dueTold r ≡ awaits (meant s) ⌝ }
+{
+    let stage = s.stage;
+    match stage {
+        Stage::Open(waiting) => Due::Step(step_due(s.setup, waiting)),
+        Stage::Over(_) => Due::Nothing,
+    }
+}
+
+fn step_due(s: Setup, waiting: Waiting) -> f64
+    ensures { λ r. ⌜ r ≡ stepOf s waiting ⌝ }
+{
+    let p = s.options.params;
+    match waiting {
+        Waiting::Low => p.min,
+        Waiting::High(_) => p.max,
+        Waiting::Start(_) => p.start,
+        Waiting::Running(_, t, asked) => step_asked(t, asked),
+    }
+}
+
+fn step_asked(t: Trial, asked: Asked) -> f64
+    ensures { λ r. ⌜ r ≡ stepAsked t asked ⌝ }
+{
+    match asked {
+        Asked::Update(_) => t.x,
+        Asked::Between(e) => e.d,
+    }
+}
+
+// What is kept while an answer is awaited.
 fn keeps(waiting: Waiting) -> Kept
     ensures { λ r. ⌜ r ≡ keptOf waiting ⌝ }
 {

@@ -58,6 +58,12 @@ module _ {K : Type 0} where
   picks d true x y m n p q = p
   picks d false x y m n p q = q
 
+  -- and by what the test says
+  pub picks-by : {A : Type 0} (d : A → Seen K) (b : Bool) (x y : A) (m n : Search K)
+      → (b ≡ true → d x ≡ seen m) → (b ≡ false → d y ≡ seen n) → d (cond b x y) ≡ seen (cond b m n)
+  picks-by d true x y m n p q = p refl
+  picks-by d false x y m n p q = q refl
+
 -- a counter that an accepted answer raises
 pub adds-one : (a : Bool) (n m k : ℕ) → n < 4294967295 → k ≡ cond a (counted n) n → k + m ≡ n + (cond a 1 0 + m)
 unfolding counted

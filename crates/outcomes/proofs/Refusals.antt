@@ -4,7 +4,7 @@ use mathlib.Core.Path.{_≡_, refl, sym, ap}
 use mathlib.Core.Bool.{Bool, true, false, cond}
 use mathlib.Core.List.{List, [], _∷_}
 use mathlib.Core.Option.{some, Option·none-ne-some, Option·some-injective}
-use Rattle.numbers.specs.Results.{value, refused, Row, refuse_else_}
+use Rattle.numbers.specs.Results.{Result, value, refused, Row, refuse_else_}
 use Rattle.outcomes.specs.Refusals.{given, refusedBy}
 use Rattle.outcomes.proofs.Branches.{by-test}
 
@@ -63,3 +63,14 @@ module _ {A : Type 0} where
   pub value-given : (rows : List Row) (a : A) → Passed rows → (refuse rows else a) ≡ value a
   value-given [] a all = refl
   value-given (r ∷ rows) a (and t p) = rw t (value-given rows a p)
+
+-- two results by the same rows, each read in its way: alike where the values are, and every refusal
+pub alike : {A B T : Type 0} (h : Result A → T) (k : Result B → T) → ((n : ℕ) → h (refused n) ≡ k (refused n))
+    → (a : A) (b : B) → h (value a) ≡ k (value b) → (rows : List Row) → h (refuse rows else a) ≡ k (refuse rows else b)
+alike h k same a b e [] = e
+alike h k same a b e (r ∷ rows) = by (r .1) (alike h k same a b e rows)
+  where
+    by : (c : Bool) → h (refuse rows else a) ≡ k (refuse rows else b)
+        → h (cond c (refused (r .0)) (refuse rows else a)) ≡ k (cond c (refused (r .0)) (refuse rows else b))
+    by true p = same (r .0)
+    by false p = p

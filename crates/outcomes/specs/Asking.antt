@@ -3,6 +3,7 @@
 use Prim.Native.Nat.{ℕ, _+_}
 use mathlib.Core.Bool.{Bool, true, false, cond, not}
 use mathlib.Core.List.{List, [], _∷_}
+use mathlib.Core.Option.{Option, some, none}
 use lib.Ieee.{Float}
 use Rattle.numbers.specs.Results.{Result, value, refused}
 use Rattle.outcomes.specs.Outcomes.{Ending, refusal, Told, asks, ends, Why, answerNotFinite, alreadyOver, numbered}
@@ -45,6 +46,11 @@ module _ {K : Type 0} where
   unfoldable pub reported : Search K → K
   reported (ask k x then) = k
   reported (end o) = o .keeps
+
+  -- the step at which an answer is awaited
+  unfoldable pub awaits : Search K → Option Float
+  awaits (ask k x then) = some x
+  awaits (end o) = none
 
   unfoldable pub isOver : Search K → Bool
   isOver (ask k x then) = false

@@ -1,0 +1,20 @@
+-- `hagerzhang::awaited` meets its contract: the step at which the rules await an answer. Assumes nothing.
+use mathlib.Core.Path.{ap}
+use lib.Ieee.{Float}
+use Rattle.hagerzhang.specs.declared.Due.the-variants.{Step}
+use Rattle.hagerzhang.specs.Machine.{dueAt}
+use Rattle.hagerzhang.proofs.Answering.{awaited-promised}
+use borrow.Author.Needs.{needs}
+use Rattle.hagerzhang.proofs.awaited.Statement.{statement}
+use Rattle.hagerzhang.proofs.awaited.Tie as tie
+
+returns : tie.Need-returns
+unfolding dueAt
+returns c = awaited-promised (c .before .before .before .before .args .s) _ (rw (c .before .before .stage .given .1) (ap Step (c .step-due .ensures)))
+
+returns-2 : tie.Need-returns-2
+unfolding dueAt
+returns-2 c = awaited-promised (c .before .before .args .s) _ (rw (c .enum-told .given .1))
+
+pub awaited-spec : {M : Type 1} → statement M
+awaited-spec = tie.close (tie.spec (λ c. search needs) (λ c κs. tt) (λ c. search needs) returns returns-2)
