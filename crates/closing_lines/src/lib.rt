@@ -7,7 +7,7 @@ use hagerzhang::Waiting;
 use outcomes::Evaluations;
 use outcomes::Iterations;
 ghost use mathlib.Core.Path.{_≡_};
-ghost use Rattle.text.specs.Text.{page, write};
+ghost use Rattle.text.specs.Text.{Writes};
 ghost use Rattle.closing_lines.specs.Closing.{heldBy, iterationsOf, noneText, finishedText, closingText};
 
 fn held(stage: Stage) -> Kept
@@ -38,14 +38,14 @@ pub fn iterations(stage: Stage) -> Iterations
 
 // Neither bracket nor best.
 pub fn none(out: &mut [u8], at: usize, e: Evaluations, i: Iterations) -> usize
-    ensures { λ r. ⌜ page (now (out .exit)) r ≡ write (page (now (out .entry)) at) (noneText (e .0) (i .0)) ⌝ }
+    ensures { λ r. ⌜ Writes (now (out .entry)) at (noneText (e .0) (i .0)) (now (out .exit)) r ⌝ }
 {
     let p = text::word(out, at, b"BRACKET none\nBEST none\nCOUNTS");
     figures::counts(out, p, e, i)
 }
 
 fn finished(out: &mut [u8], at: usize, f: Finished, e: Evaluations) -> usize
-    ensures { λ r. ⌜ page (now (out .exit)) r ≡ write (page (now (out .entry)) at) (finishedText f (e .0)) ⌝ }
+    ensures { λ r. ⌜ Writes (now (out .entry)) at (finishedText f (e .0)) (now (out .exit)) r ⌝ }
 {
     let a = f.bracket.a;
     let b = f.bracket.b;
@@ -58,7 +58,7 @@ fn finished(out: &mut [u8], at: usize, f: Finished, e: Evaluations) -> usize
 
 // Of a search at this stage.
 pub fn closing(out: &mut [u8], at: usize, stage: Stage, e: Evaluations) -> usize
-    ensures { λ r. ⌜ page (now (out .exit)) r ≡ write (page (now (out .entry)) at) (closingText (heldBy stage) (e .0)) ⌝ }
+    ensures { λ r. ⌜ Writes (now (out .entry)) at (closingText (heldBy stage) (e .0)) (now (out .exit)) r ⌝ }
 {
     match held(stage) {
         Kept::NoneYet => none(out, at, e, Iterations(0)),

@@ -12,13 +12,16 @@ use Rattle.figures.specs.Figures.{nextText, floatsText}
 
 both : (xs ys : List Float) → floatsText (xs ++ ys) ≡ floatsText xs ++ floatsText ys
 both [] ys = refl
-both (x ∷ xs) ys = ap (λ t. nextText x ++ t) (both xs ys) ∙ sym (append-assoc (nextText x) (floatsText xs) (floatsText ys))
+both (x ∷ xs) ys =
+    ap (λ t. nextText x ++ t) (both xs ys) ∙ sym (append-assoc (nextText x) (floatsText xs) (floatsText ys))
 
 -- the first i floats, and one more
-pub then-float : (p : Page) {q r : Page} (xs : List Float) (i : ℕ) → i < length xs → q ≡ write p (floatsText (take i xs))
-    → r ≡ write q (nextText (getD xs i nan)) → r ≡ write p (floatsText (take (i + 1) xs))
+pub then-float : (p : Page) {q r : Page} (xs : List Float) (i : ℕ) → i < length xs
+    → q ≡ write p (floatsText (take i xs)) → r ≡ write q (nextText (getD xs i nan))
+    → r ≡ write p (floatsText (take (i + 1) xs))
 then-float p xs i h first next =
     rw (add-one, take-suc xs i nan h, both (take i xs) (getD xs i nan ∷ [])) (then p _ _ first next)
 
-pub all-floats : (p : Page) {q : Page} (xs : List Float) (i : ℕ) → length xs ≤ i → q ≡ write p (floatsText (take i xs)) → q ≡ write p (floatsText xs)
+pub all-floats : (p : Page) {q : Page} (xs : List Float) (i : ℕ) → length xs ≤ i
+    → q ≡ write p (floatsText (take i xs)) → q ≡ write p (floatsText xs)
 all-floats p xs i h e = e ∙ ap (λ l. write p (floatsText l)) (take-all i xs h)

@@ -12,7 +12,8 @@ pub samples : (lineOf (asks (ofBits binary64 0)) 0 0 ≡ bytes "ASK 000000000000
     × (lineOf (asks (ofBits binary64 0x4010_0000_0000_0000)) 0 0 ≡ bytes "ASK 4010000000000000\n")
     × (lineOf (asks one) 0 0 ≡ bytes "ASK 3FF0000000000000\n")
     × (lineOf (ends (stop wolfe one)) 3 0 ≡ bytes "STOP wolfe 3FF0000000000000 evaluations 3 iterations 0\n")
-    × (lineOf (ends (stop approximate one)) 21 5 ≡ bytes "STOP approximate 3FF0000000000000 evaluations 21 iterations 5\n")
+    × (lineOf (ends (stop approximate one)) 21 5
+    ≡ bytes "STOP approximate 3FF0000000000000 evaluations 21 iterations 5\n")
     × (lineOf (ends (stop met one)) 1 0 ≡ bytes "STOP met 3FF0000000000000 evaluations 1 iterations 0\n")
     × (lineOf (ends (limit one)) 103 100 ≡ bytes "LIMIT 3FF0000000000000 evaluations 103 iterations 100\n")
     × (lineOf (ends (refusal 8)) 7 2 ≡ bytes "REFUSED 8\n")

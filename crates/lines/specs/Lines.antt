@@ -1,6 +1,7 @@
 -- 01, "Sample curves and jobs": the lines that tell an outcome. Each ends with a newline.
 use Prim.Native.Nat.{ℕ}
 use mathlib.Core.List.{List, [], _∷_, _++_}
+use lib.Ieee.{Float}
 use Rattle.text.specs.Text.{bytes}
 use Rattle.figures.specs.Figures.{nextText, numberLine, floatsLine, countsText}
 use Rattle.outcomes.specs.Outcomes.{Word, met, wolfe, approximate, stop, limit, refusal, Told, asks, ends}
@@ -10,12 +11,20 @@ verdictText met = bytes "met"
 verdictText wolfe = bytes "wolfe"
 verdictText approximate = bytes "approximate"
 
+-- `STOP`, the verdict's word w, the step x and both counts
+abbrev pub stopLine : Word → Float → ℕ → ℕ → List ℕ
+stopLine w x e i = bytes "STOP " ++ verdictText w ++ nextText x ++ countsText e i
+
+-- `LIMIT`, the step x and both counts
+abbrev pub limitLine : Float → ℕ → ℕ → List ℕ
+limitLine x e i = bytes "LIMIT" ++ nextText x ++ countsText e i
+
 abbrev pub refusedLine : ℕ → List ℕ
 refusedLine n = numberLine (bytes "REFUSED ") n
 
 -- the line for what a search tells, with its evaluations e and its iterations i
 abbrev pub lineOf : Told → ℕ → ℕ → List ℕ
 lineOf (asks x) e i = floatsLine (bytes "ASK") (x ∷ [])
-lineOf (ends (stop w x)) e i = bytes "STOP " ++ verdictText w ++ nextText x ++ countsText e i
-lineOf (ends (limit x)) e i = bytes "LIMIT" ++ nextText x ++ countsText e i
+lineOf (ends (stop w x)) e i = stopLine w x e i
+lineOf (ends (limit x)) e i = limitLine x e i
 lineOf (ends (refusal n)) e i = refusedLine n

@@ -5,21 +5,19 @@ use outcomes::Iterations;
 use outcomes::Outcome;
 use outcomes::Verdict;
 ghost use mathlib.Core.List.{_++_};
-ghost use mathlib.Core.Path.{_≡_};
 ghost use Rattle.outcomes.specs.Outcomes.{verdictWord, told};
-ghost use Rattle.text.specs.Text.{page, write, bytes};
-ghost use Rattle.figures.specs.Figures.{nextText, countsText};
-ghost use Rattle.lines.specs.Lines.{verdictText, refusedLine, lineOf};
+ghost use Rattle.text.specs.Text.{Writes, bytes};
+ghost use Rattle.lines.specs.Lines.{verdictText, stopLine, limitLine, refusedLine, lineOf};
 
 // The line of the refusal n.
 pub fn refused(out: &mut [u8], at: usize, n: u32) -> usize
-    ensures { λ r. ⌜ page (now (out .exit)) r ≡ write (page (now (out .entry)) at) (refusedLine n) ⌝ }
+    ensures { λ r. ⌜ Writes (now (out .entry)) at (refusedLine n) (now (out .exit)) r ⌝ }
 {
     figures::number_line(out, at, b"REFUSED ", n as u64)
 }
 
 fn verdict(out: &mut [u8], at: usize, v: Verdict) -> usize
-    ensures { λ r. ⌜ page (now (out .exit)) r ≡ write (page (now (out .entry)) at) (bytes "STOP " ++ verdictText (verdictWord v)) ⌝ }
+    ensures { λ r. ⌜ Writes (now (out .entry)) at (bytes "STOP " ++ verdictText (verdictWord v)) (now (out .exit)) r ⌝ }
 {
     match v {
         Verdict::Met => text::word(out, at, b"STOP met"),
@@ -29,7 +27,7 @@ fn verdict(out: &mut [u8], at: usize, v: Verdict) -> usize
 }
 
 fn stop(out: &mut [u8], at: usize, v: Verdict, x: f64, e: Evaluations, i: Iterations) -> usize
-    ensures { λ r. ⌜ page (now (out .exit)) r ≡ write (page (now (out .entry)) at) (bytes "STOP " ++ verdictText (verdictWord v) ++ nextText x ++ countsText (e .0) (i .0)) ⌝ }
+    ensures { λ r. ⌜ Writes (now (out .entry)) at (stopLine (verdictWord v) x (e .0) (i .0)) (now (out .exit)) r ⌝ }
 {
     let p = verdict(out, at, v);
     let q = figures::float(out, p, x);
@@ -37,7 +35,7 @@ fn stop(out: &mut [u8], at: usize, v: Verdict, x: f64, e: Evaluations, i: Iterat
 }
 
 fn limit(out: &mut [u8], at: usize, x: f64, e: Evaluations, i: Iterations) -> usize
-    ensures { λ r. ⌜ page (now (out .exit)) r ≡ write (page (now (out .entry)) at) (bytes "LIMIT" ++ nextText x ++ countsText (e .0) (i .0)) ⌝ }
+    ensures { λ r. ⌜ Writes (now (out .entry)) at (limitLine x (e .0) (i .0)) (now (out .exit)) r ⌝ }
 {
     let p = text::word(out, at, b"LIMIT");
     let q = figures::float(out, p, x);
@@ -46,7 +44,7 @@ fn limit(out: &mut [u8], at: usize, x: f64, e: Evaluations, i: Iterations) -> us
 
 // The line of an outcome, with the search's evaluations and iterations.
 pub fn outcome(out: &mut [u8], at: usize, o: Outcome, e: Evaluations, i: Iterations) -> usize
-    ensures { λ r. ⌜ page (now (out .exit)) r ≡ write (page (now (out .entry)) at) (lineOf (told o) (e .0) (i .0)) ⌝ }
+    ensures { λ r. ⌜ Writes (now (out .entry)) at (lineOf (told o) (e .0) (i .0)) (now (out .exit)) r ⌝ }
 {
     match o {
         Outcome::Ask(x) => figures::floats_line(out, at, b"ASK", &[x]),

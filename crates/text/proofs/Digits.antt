@@ -15,7 +15,8 @@ unfolding decimalUpTo
 one-digit zero n some h = absurd (some refl)
 one-digit (suc k) n some h = simp (lt-ltb n 10 h)
 
-pub more-digits : (k n : ℕ) → (k ≡ 0 → ⊥) → 10 ≤ n → decimalUpTo (k - 1) (n / 10) ++ digit (n % 10) ∷ [] ≡ decimalUpTo k n
+pub more-digits : (k n : ℕ) → (k ≡ 0 → ⊥) → 10 ≤ n
+    → decimalUpTo (k - 1) (n / 10) ++ digit (n % 10) ∷ [] ≡ decimalUpTo k n
 unfolding decimalUpTo
 more-digits zero n some h = absurd (some refl)
 more-digits (suc k) n some h = simp (sub-one, le-ltb n 10 h)

@@ -3,6 +3,7 @@ use Prim.Native.Nat.{ℕ, zero, suc, _+_, _/_, _%_, _^_}
 use Prim.Native.Char.{code}
 use Prim.Native.String.{String}
 use Prim.Native.String as Quoted
+use mathlib.Core.Path.{_≡_}
 use mathlib.Core.Bool.{cond}
 use mathlib.Core.List.{List, [], _∷_, _++_, foldl}
 use lib.Dec.{ltb}
@@ -25,6 +26,10 @@ put p b = cond (ltb (p .at) (length (p .held))) (page (set (p .held) (p .at) b) 
 -- the bytes one after the other, as many as there is room for
 unfoldable pub write : Page → List ℕ → Page
 write p text = foldl put p text
+
+-- the buffer held `before`, and the text was written at `at`; now it holds `after`, and r is the place behind
+abbrev pub Writes : List ℕ → ℕ → List ℕ → List ℕ → ℕ → Type 0
+Writes before at text after r = page after r ≡ write (page before at) text
 
 -- ---- text
 

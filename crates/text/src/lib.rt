@@ -1,14 +1,15 @@
-// Text written into a lent buffer: each function writes at a place, as much as there is room for, and answers the place behind it.
+// Text written into a lent buffer: each function writes at a place, as much as there is room for, and answers the place
+// behind it.
 
 ghost use mathlib.Core.List.{[], _∷_};
 ghost use mathlib.Core.Path.{_≡_};
 ghost use Prim.Native.Nat.{_<_};
-ghost use Rattle.text.specs.Text.{page, write, hexOf, decimalOf, decimalUpTo};
+ghost use Rattle.text.specs.Text.{Writes, hexOf, decimalOf, decimalUpTo};
 ghost use Rattle.text.specs.Text.{digit as Text·digit};
 
 // One byte; a full buffer stays as it is.
 pub fn byte(out: &mut [u8], at: usize, b: u8) -> usize
-    ensures { λ r. ⌜ page (now (out .exit)) r ≡ write (page (now (out .entry)) at) (b ∷ []) ⌝ }
+    ensures { λ r. ⌜ Writes (now (out .entry)) at (b ∷ []) (now (out .exit)) r ⌝ }
 {
     if at < out.len() {
         out[at] = b;
@@ -18,7 +19,7 @@ pub fn byte(out: &mut [u8], at: usize, b: u8) -> usize
 }
 
 pub fn word(out: &mut [u8], at: usize, w: &[u8]) -> usize
-    ensures { λ r. ⌜ page (now (out .exit)) r ≡ write (page (now (out .entry)) at) (now (w .entry)) ⌝ }
+    ensures { λ r. ⌜ Writes (now (out .entry)) at (now (w .entry)) (now (out .exit)) r ⌝ }
 {
     let mut next = at;
     let mut i = 0;
@@ -78,7 +79,7 @@ fn hex_digits(w: u64) -> [u8; 16]
 
 // The sixteen digits of w in base 16, in upper case.
 pub fn hex(out: &mut [u8], at: usize, w: u64) -> usize
-    ensures { λ r. ⌜ page (now (out .exit)) r ≡ write (page (now (out .entry)) at) (hexOf w) ⌝ }
+    ensures { λ r. ⌜ Writes (now (out .entry)) at (hexOf w) (now (out .exit)) r ⌝ }
 {
     let digits = hex_digits(w);
     word(out, at, &digits)
@@ -86,7 +87,7 @@ pub fn hex(out: &mut [u8], at: usize, w: u64) -> usize
 
 // The last k digits at most.
 fn decimal_up_to(out: &mut [u8], at: usize, k: u32, n: u64) -> usize
-    ensures { λ r. ⌜ page (now (out .exit)) r ≡ write (page (now (out .entry)) at) (decimalUpTo k n) ⌝ }
+    ensures { λ r. ⌜ Writes (now (out .entry)) at (decimalUpTo k n) (now (out .exit)) r ⌝ }
 {
     if k == 0 {
         return at;
@@ -100,7 +101,7 @@ fn decimal_up_to(out: &mut [u8], at: usize, k: u32, n: u64) -> usize
 
 // n in decimal.
 pub fn decimal(out: &mut [u8], at: usize, n: u64) -> usize
-    ensures { λ r. ⌜ page (now (out .exit)) r ≡ write (page (now (out .entry)) at) (decimalOf n) ⌝ }
+    ensures { λ r. ⌜ Writes (now (out .entry)) at (decimalOf n) (now (out .exit)) r ⌝ }
 {
     decimal_up_to(out, at, 20, n)
 }

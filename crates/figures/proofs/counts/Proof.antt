@@ -8,7 +8,10 @@ use Rattle.figures.proofs.counts.Tie as tie
 pub counts-spec : {M : Type 1} → statement M
 counts-spec =
     tie.close
-    (tie.spec (λ c. search needs) (λ c. search needs) (λ c κs. search needs) (λ c. search needs) (λ c. search needs) (λ c κs. search needs) (λ c. search needs) (λ c.
+    (tie.spec
+    (λ c. search needs) (λ c. search needs) (λ c κs. search needs) (λ c. search needs) (λ c. search needs)
+    (λ c κs. search needs) (λ c. search needs)
+    (λ c.
     let i = c .before .before in
     let e = i .before .before .before .before .before .before in
     rw (append-assoc, append-assoc) (then _ _ _ (e .number .ensures) (i .number-line .ensures))))

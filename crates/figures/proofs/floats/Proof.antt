@@ -4,7 +4,7 @@ use mathlib.Core.Path.{_≡_, refl, _∙_}
 use Prim.Native.Nat.{_-_, _≤_}
 use lib.ListN.{length, take}
 use denote.Ref.{now}
-use Rattle.text.specs.Text.{page, write}
+use Rattle.text.specs.Text.{Writes}
 use Rattle.text.proofs.Writing.{nothing}
 use Rattle.figures.specs.Figures.{floatsText}
 use Rattle.figures.proofs.Runs.{then-float, all-floats}
@@ -13,7 +13,7 @@ use Rattle.figures.proofs.floats.Tie as tie
 
 abbrev Inv-loop : tie.InvT-loop
 Inv-loop out₀ at xs p₀ i₀ out p i =
-    (i ≤ length xs) × (length out ≡ length out₀) × (page out p ≡ write (page out₀ at) (floatsText (take i xs)))
+    (i ≤ length xs) × (length out ≡ length out₀) × Writes out₀ at (floatsText (take i xs)) out p
 
 abbrev μ-loop : tie.MeasureT-loop
 μ-loop out₀ at xs p₀ i₀ out p i = length xs - i
@@ -36,5 +36,6 @@ returns c =
 
 pub floats-spec : {M : Type 1} → statement M
 floats-spec =
-    tie.close (tie.spec Inv-loop μ-loop (λ c. (search needs, refl, nothing _)) (λ c. search needs) (λ c. search needs) (λ c κs. search needs)
-    (λ c. search needs) (λ c. search needs) loop-again (λ c. search needs) returns)
+    tie.close
+    (tie.spec Inv-loop μ-loop (λ c. (search needs, refl, nothing _)) (λ c. search needs) (λ c. search needs)
+    (λ c κs. search needs) (λ c. search needs) (λ c. search needs) loop-again (λ c. search needs) returns)

@@ -1,4 +1,5 @@
--- `text::decimal_up_to` meets its contract: the digits of the tenth part, then the last. The measure is k. Assumes nothing.
+-- `text::decimal_up_to` meets its contract: the digits of the tenth part, then the last. The measure is k.
+-- Assumes nothing.
 use borrow.Author.Needs.{needs}
 use mathlib.Core.Path.{ap, _∙_}
 use mathlib.Core.List.{[], _∷_, _++_}

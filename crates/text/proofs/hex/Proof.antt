@@ -1,8 +1,5 @@
 -- `text::hex` meets its contract. Assumes nothing.
 use borrow.Author.Needs.{needs}
-use mathlib.Core.Path.{ap, _∙_}
-use denote.Ref.{now}
-use Rattle.text.specs.Text.{page, write}
 use Rattle.text.proofs.hex.Statement.{statement}
 use Rattle.text.proofs.hex.Tie as tie
 
@@ -10,8 +7,9 @@ returns : tie.Need-returns
 returns c =
     let w = c .before .before in
     let h = w .before .before .before in
-    let a = h .before .before .args in
-    w .word .ensures ∙ ap (write (page (now (a .out)) (a .at))) (h .hex-digits .ensures)
+    rw (h .hex-digits .ensures) at (w .word .ensures)
 
 pub hex-spec : {M : Type 1} → statement M
-hex-spec = tie.close (tie.spec (λ c κs. search needs) (λ c. search needs) (λ c κs. search needs) (λ c. search needs) returns)
+hex-spec =
+    tie.close
+    (tie.spec (λ c κs. search needs) (λ c. search needs) (λ c κs. search needs) (λ c. search needs) returns)

@@ -6,26 +6,35 @@ use Rattle.text.proofs.hex_digits.Tie as tie
 
 returns : tie.Need-returns
 returns c =
-    let e16 = c .digit16 .ensures in
-    let e15 = c .before .digit15 .ensures in
-    let e14 = c .before .before .digit14 .ensures in
-    let e13 = c .before .before .before .digit13 .ensures in
-    let e12 = c .before .before .before .before .digit12 .ensures in
-    let e11 = c .before .before .before .before .before .digit11 .ensures in
-    let e10 = c .before .before .before .before .before .before .digit10 .ensures in
-    let e9 = c .before .before .before .before .before .before .before .digit9 .ensures in
-    let e8 = c .before .before .before .before .before .before .before .before .digit8 .ensures in
-    let e7 = c .before .before .before .before .before .before .before .before .before .digit7 .ensures in
-    let e6 = c .before .before .before .before .before .before .before .before .before .before .digit6 .ensures in
-    let e5 = c .before .before .before .before .before .before .before .before .before .before .before .digit5 .ensures in
-    let e4 = c .before .before .before .before .before .before .before .before .before .before .before .before .digit4 .ensures in
-    let e3 = c .before .before .before .before .before .before .before .before .before .before .before .before .before .digit3 .ensures in
-    let e2 = c .before .before .before .before .before .before .before .before .before .before .before .before .before .before .digit2 .ensures in
-    let e1 = c .before .before .before .before .before .before .before .before .before .before .before .before .before .before .before .digit .ensures in
-    simp (e16, e15, e14, e13, e12, e11, e10, e9, e8, e7, e6, e5, e4, e3, e2, e1, div-one)
+    let d = c .before .before .before .before in
+    let e = d .before .before .before .before in
+    let f = e .before .before .before .before in
+    simp (
+      c .digit16 .ensures,
+      c .before .digit15 .ensures,
+      c .before .before .digit14 .ensures,
+      c .before .before .before .digit13 .ensures,
+      d .digit12 .ensures,
+      d .before .digit11 .ensures,
+      d .before .before .digit10 .ensures,
+      d .before .before .before .digit9 .ensures,
+      e .digit8 .ensures,
+      e .before .digit7 .ensures,
+      e .before .before .digit6 .ensures,
+      e .before .before .before .digit5 .ensures,
+      f .digit4 .ensures,
+      f .before .digit3 .ensures,
+      f .before .before .digit2 .ensures,
+      f .before .before .before .digit .ensures,
+      div-one,
+    )
 
 pub hex-digits-spec : {M : Type 1} → statement M
 hex-digits-spec =
-    tie.close (tie.spec (λ c κs. search needs) (λ c κs. search needs) (λ c κs. search needs) (λ c κs. search needs) (λ c κs. search needs)
-    (λ c κs. search needs) (λ c κs. search needs) (λ c κs. search needs) (λ c κs. search needs) (λ c κs. search needs) (λ c κs. search needs)
-    (λ c κs. search needs) (λ c κs. search needs) (λ c κs. search needs) (λ c κs. search needs) (λ c κs. search needs) returns)
+    tie.close
+    (tie.spec
+    (λ c κs. search needs) (λ c κs. search needs) (λ c κs. search needs) (λ c κs. search needs)
+    (λ c κs. search needs) (λ c κs. search needs) (λ c κs. search needs) (λ c κs. search needs)
+    (λ c κs. search needs) (λ c κs. search needs) (λ c κs. search needs) (λ c κs. search needs)
+    (λ c κs. search needs) (λ c κs. search needs) (λ c κs. search needs) (λ c κs. search needs)
+    returns)
