@@ -1,9 +1,10 @@
 -- 01, "Conditions", and of "Parameters" the conditions' constants. f0 and s0 are cost and slope at the start; f and s at the step t.
-use mathlib.Core.Bool.{Bool, true, false, cond, _&&_}
+use mathlib.Core.Bool.{Bool, true, false, cond, not, _&&_}
+use mathlib.Core.List.{List, [], _∷_}
 use lib.Ieee.{Float}
 use lib.Ieee.Scale.{finite}
 use Rattle.floats.specs.Arithmetic.{_⊕_, _⊖_, _⊗_, _<ᶠ_, _≤ᶠ_, _≥ᶠ_, 0ᶠ, ½ᶠ, 1ᶠ}
-use Rattle.numbers.specs.Results.{Result, value, unless_refuse_else_}
+use Rattle.numbers.specs.Results.{Result, Row, refuse_else_}
 use Rattle.numbers.specs.Numbers.{bothFinite, absOf}
 use Rattle.conditions.specs.declared.Condition.{Condition}
 use Rattle.conditions.specs.declared.Condition.the-variants.{Armijo, Goldstein, Wolfe, StrongWolfe}
@@ -23,11 +24,11 @@ inRange (Wolfe c1 c2) = 0ᶠ <ᶠ c1 && c1 <ᶠ c2 && c2 <ᶠ 1ᶠ
 inRange (StrongWolfe c1 c2) = 0ᶠ <ᶠ c1 && c1 <ᶠ c2 && c2 <ᶠ 1ᶠ
 
 -- A condition by itself. (A search's start looks at all its numbers first, and then at all ranges.)
+abbrev pub conditionRows : Condition → List Row
+conditionRows C = (2, not (constantsFinite C)) ∷ (3, not (inRange C)) ∷ []
+
 abbrev pub checkedOf : Condition → Result Condition
-checkedOf C =
-    unless (constantsFinite C) refuse 2 else
-    unless (inRange C) refuse 3 else
-    value C
+checkedOf C = refuse (conditionRows C) else C
 
 -- ---- 01, "Conditions"
 
