@@ -1,5 +1,5 @@
-// Backtracking (argmin's backtracking.rs): the step is shrunk until a condition is met. The search hands out a step, and is given cost and
-// slope there.
+// Backtracking (argmin's backtracking.rs): the step is shrunk until a condition is met. The search hands out a step,
+// and is given cost and slope there.
 
 use conditions::Condition;
 use outcomes::Evaluations;
@@ -10,7 +10,7 @@ use outcomes::Verdict;
 ghost use mathlib.Core.Path.{_≡_};
 ghost use Prim.Native.Nat.{_<_};
 ghost use Rattle.backtracking.specs.Backtracking.{suppliedFinite, inRanges, defaultsOf};
-ghost use Rattle.backtracking.specs.Machine.{startOf, madeOf, shortenedOf, triedOf, answerOf};
+ghost use Rattle.backtracking.specs.Machine.{madeOf, shortenedOf, triedOf, StartSaid, AnswerSaid};
 ghost use Rattle.backtracking.specs.Meaning.{Starts, Follows};
 
 // What does not change in a search.
@@ -110,7 +110,7 @@ fn in_ranges(s: Setup) -> bool
 
 // A search that asks the first step, or why there is none.
 pub fn start(s: Setup) -> Started
-    ensures exact { λ r. ⌜ r ≡ startOf s ⌝ }
+    ensures exact { λ r. ⌜ StartSaid s r ⌝ }
     ensures rules { λ r. ⌜ Starts s r ⌝ }
 {
     if !supplied_finite(s) {
@@ -177,9 +177,10 @@ fn tried(
     shortened(s, m, now, t)
 }
 
-// One answer, cost f and slope g: the search with it, and what comes next. It is the step that 01's rules take (the limit is below 2^32, as every u32 is).
+// One answer, cost f and slope g: the search with it, and what comes next. It is the step that 01's rules take
+// (the limit is below 2^32, as every u32 is).
 pub fn answer(s: Backtracking, f: f64, g: f64) -> Step
-    ensures exact { λ r. ⌜ r ≡ answerOf s f g ⌝ }
+    ensures exact { λ r. ⌜ AnswerSaid s f g r ⌝ }
     ensures rules { λ r. ⌜ (s .setup .limit < 4294967296 → Follows s f g r) ⌝ }
 {
     let stage = s.stage;
