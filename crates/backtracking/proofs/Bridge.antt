@@ -139,9 +139,9 @@ follows s h f g r e =
     record { tells = ap (λ (p : Seen ℕ). p .1) z; leaves = ap (λ (p : Seen ℕ). p .0) z }
 
 -- what `answer` promises of its result
-pub promised : (s : Backtracking) (f g : Float) (r : Step) → AnswerSaid s f g r
-    → AnswerSaid s f g r × (s .setup .limit < 4294967296 → Follows s f g r)
-promised s f g r e = (e, λ h. follows s h f g r e)
+pub promised : (s : Backtracking) → s .setup .limit < 4294967296 → (f g : Float) (r : Step)
+    → AnswerSaid s f g r → AnswerSaid s f g r × Follows s f g r
+promised s h f g r e = (e, follows s h f g r e)
 
 -- ---- `start`
 

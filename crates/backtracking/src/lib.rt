@@ -8,7 +8,6 @@ use outcomes::Outcome;
 use outcomes::Refusal;
 use outcomes::Verdict;
 ghost use mathlib.Core.Path.{_≡_};
-ghost use Prim.Native.Nat.{_<_};
 ghost use Rattle.backtracking.specs.Backtracking.{suppliedFinite, inRanges, defaultsOf};
 ghost use Rattle.backtracking.specs.Machine.{madeOf, shortenedOf, triedOf, StartSaid, AnswerSaid};
 ghost use Rattle.backtracking.specs.Meaning.{Starts, Follows};
@@ -177,11 +176,10 @@ fn tried(
     shortened(s, m, now, t)
 }
 
-// One answer, cost f and slope g: the search with it, and what comes next. It is the step that 01's rules take
-// (the limit is below 2^32, as every u32 is).
+// One answer, cost f and slope g: the search with it, and what comes next. It is the step that 01's rules take.
 pub fn answer(s: Backtracking, f: f64, g: f64) -> Step
     ensures exact { λ r. ⌜ AnswerSaid s f g r ⌝ }
-    ensures rules { λ r. ⌜ (s .setup .limit < 4294967296 → Follows s f g r) ⌝ }
+    ensures rules { λ r. ⌜ Follows s f g r ⌝ }
 {
     let stage = s.stage;
     match stage {
