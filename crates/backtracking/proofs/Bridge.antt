@@ -17,7 +17,7 @@ use Rattle.outcomes.specs.Counters.{counted, iterations}
 use Rattle.outcomes.proofs.Machines.{Seen, seen, picks, counts-on}
 use Rattle.outcomes.specs.declared.Evaluations.{Evaluations}
 use Rattle.outcomes.specs.declared.Iterations.{Iterations}
-use Rattle.outcomes.specs.declared.Outcome.the-variants.{Ask, Stop, Limit, Refused}
+use Rattle.outcomes.specs.declared.Outcome.the-variants.{Stop, Limit, Refused}
 use Rattle.outcomes.specs.declared.Refusal.the-variants.{SuppliedNotFinite, StepNotFinite}
 use Rattle.outcomes.specs.declared.Verdict.the-variants.{Met}
 use Rattle.conditions.specs.Conditions.{answerFinite, holdsOf}
