@@ -17,7 +17,7 @@ use Rattle.outcomes.specs.Counters.{counted, iterations}
 use Rattle.outcomes.proofs.Machines.{Seen, seen, picks, counts-on}
 use Rattle.outcomes.specs.declared.Evaluations.{Evaluations}
 use Rattle.outcomes.specs.declared.Iterations.{Iterations}
-use Rattle.outcomes.specs.declared.Outcome.the-variants.{Stop, Limit, Refused}
+use Rattle.outcomes.specs.declared.Outcome.the-variants.{Ask, Stop, Limit, Refused}
 use Rattle.outcomes.specs.declared.Refusal.the-variants.{SuppliedNotFinite, StepNotFinite}
 use Rattle.outcomes.specs.declared.Verdict.the-variants.{Met}
 use Rattle.conditions.specs.Conditions.{answerFinite, holdsOf}
@@ -32,7 +32,6 @@ use Rattle.backtracking.specs.Backtracking.{startRows, trials, search, s
 use Rattle.backtracking.specs.Machine.{
   madeOf,
   fresh,
-  shortenedOf,
   triedOf,
   answerBy,
   answerOf,
@@ -72,7 +71,10 @@ module _ (s : Setup) (fits : s .limit < 4294967296) (m : Evaluations) (now : Ite
 
   -- and of the machine
   abbrev further-step : Step
-  further-step = cond (leb (s .limit) (now .0)) (madeOf s m now Over (Limit t)) (shortenedOf s m now t)
+  further-step =
+      cond (leb (s .limit) (now .0)) (madeOf s m now Over (Limit t))
+      (cond (finite next-step) (madeOf s m now (Later next-step) (Ask next-step))
+      (madeOf s m now Over (Refused StepNotFinite)))
 
   ended : denote (madeOf s m now Over (Refused StepNotFinite))
       ≡ seen (over (now .0) (refusal (stepNotFinite next-step)))

@@ -52,19 +52,14 @@ StartSaid s r = startedTold r ≡ startOf s
 
 -- ---- an answer
 
-abbrev pub shortenedOf : Setup → Evaluations → Iterations → Float → Step
-shortenedOf s n i t =
-    cond (finite (t ⊗ s .rho))
-    (madeOf s n i (Later (t ⊗ s .rho)) (Ask (t ⊗ s .rho)))
-    (madeOf s n i Over (Refused StepNotFinite))
-
 unfoldable pub triedOf : Setup → Evaluations → Iterations → Iterations → Float → Float → Float → Step
 triedOf s n before now t f g =
     let m = evaluations (counted (n .0)) in
     cond (answerFinite (s .condition) f g)
     (cond (holdsOf (s .condition) (s .f0) (s .s0) t f g) (madeOf s m now Over (Stop Met t))
     (cond (leb (s .limit) (now .0)) (madeOf s m now Over (Limit t))
-    (shortenedOf s m now t)))
+    (cond (finite (t ⊗ s .rho)) (madeOf s m now (Later (t ⊗ s .rho)) (Ask (t ⊗ s .rho)))
+    (madeOf s m now Over (Refused StepNotFinite)))))
     (madeOf s n before Over (Refused SuppliedNotFinite))
 
 unfoldable pub answerBy : Backtracking → Float → Float → Stage → Step

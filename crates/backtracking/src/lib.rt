@@ -9,7 +9,7 @@ use outcomes::Refusal;
 use outcomes::Verdict;
 ghost use mathlib.Core.Path.{_≡_};
 ghost use Rattle.backtracking.specs.Backtracking.{suppliedFinite, inRanges, defaultsOf};
-ghost use Rattle.backtracking.specs.Machine.{madeOf, shortenedOf, triedOf, StartSaid, AnswerSaid};
+ghost use Rattle.backtracking.specs.Machine.{madeOf, triedOf, StartSaid, AnswerSaid};
 ghost use Rattle.backtracking.specs.Meaning.{Starts, Follows};
 
 // What does not change in a search.
@@ -127,24 +127,8 @@ pub fn start(s: Setup) -> Started
     ))
 }
 
-// The next trial, at t * rho (5).
-fn shortened(s: Setup, n: Evaluations, i: Iterations, t: f64) -> Step
-    ensures { λ r. ⌜ r ≡ shortenedOf s n i t ⌝ }
-{
-    let shorter = t * s.rho;
-    if numbers::is_finite(shorter) {
-        return made(s, n, i, Stage::Later(shorter), Outcome::Ask(shorter));
-    }
-    made(
-        s,
-        n,
-        i,
-        Stage::Over,
-        Outcome::Refused(Refusal::StepNotFinite),
-    )
-}
-
-// The answer at the step t, before which `before` iterations were counted and with which there are `now`.
+// The answer at the step t, before which `before` iterations were counted and with which there are `now`: refused (2),
+// the end by the condition or by the limit, or the next trial, at t * rho (5).
 fn tried(
     s: Setup,
     n: Evaluations,
@@ -173,7 +157,17 @@ fn tried(
     if s.limit <= now.0 {
         return made(s, m, now, Stage::Over, Outcome::Limit(t));
     }
-    shortened(s, m, now, t)
+    let shorter = t * s.rho;
+    if numbers::is_finite(shorter) {
+        return made(s, m, now, Stage::Later(shorter), Outcome::Ask(shorter));
+    }
+    made(
+        s,
+        m,
+        now,
+        Stage::Over,
+        Outcome::Refused(Refusal::StepNotFinite),
+    )
 }
 
 // One answer, cost f and slope g: the search with it, and what comes next. It is the step that 01's rules take.

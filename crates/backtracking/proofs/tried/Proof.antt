@@ -33,25 +33,38 @@ returns-2 c =
 returns-3 : tie.Need-returns-3
 unfolding triedOf
 returns-3 c =
-    rw (
-      is-finite (c .before .before .before .before .before .before .before),
-      not-met (c .before .before .before .before),
-      le-leb _ _ (c .before .if3 .taken),
-    )
-    (c .made3 .ensures ∙ rw (c .before .before .before .before .before .before .next .ensures))
+    let unmet = c .before .before .before .before in
+    rw (is-finite (unmet .before .before .before), not-met unmet, le-leb _ _ (c .before .if3 .taken))
+    (c .made3 .ensures ∙ rw (unmet .before .before .next .ensures))
 
 returns-4 : tie.Need-returns-4
 unfolding triedOf
 returns-4 c =
+    let more = c .before .before .before .before in
+    let unmet = more .before .before .before in
     rw (
-      is-finite (c .before .before .before .before .before .before .before),
-      not-met (c .before .before .before .before),
-      lt-leb _ _ (c .before .if3 .left),
+      is-finite (unmet .before .before .before),
+      not-met unmet,
+      lt-leb _ _ (more .if3 .left),
+      by-call _ _ _ (c .before .before .is-finite .ensures) (c .before .if4 .taken),
     )
-    (c .shortened .ensures ∙ rw (c .before .before .before .before .before .before .next .ensures))
+    (c .made4 .ensures ∙ rw (unmet .before .before .next .ensures))
+
+returns-5 : tie.Need-returns-5
+unfolding triedOf
+returns-5 c =
+    let more = c .before .before .before .before in
+    let unmet = more .before .before .before in
+    rw (
+      is-finite (unmet .before .before .before),
+      not-met unmet,
+      lt-leb _ _ (more .if3 .left),
+      by-call _ _ _ (c .before .before .is-finite .ensures) (c .before .if4 .left),
+    )
+    (c .made5 .ensures ∙ rw (unmet .before .before .next .ensures))
 
 pub tried-spec : {M : Type 1} → statement M
 tried-spec =
     tie.close
     (tie.spec (λ c κs. tt) (λ c κs. tt) returns (λ c κs. tt) (λ c κs. tt) (λ c κs. tt) returns-2 (λ c κs. tt) returns-3
-    (λ c κs. tt) returns-4)
+    (λ c κs. tt) (λ c κs. tt) returns-4 (λ c κs. tt) returns-5)
