@@ -12,7 +12,7 @@ use borrow.Author.Tests.{le-leb, lt-leb}
 use Rattle.floats.specs.Arithmetic.{_⊗_}
 use Rattle.numbers.specs.Results.{Result, value, refused, Row, refuse_else_}
 use Rattle.outcomes.specs.Outcomes.{met, stop, limit, refusal, Told, asks, ends, told, answerNotFinite, stepNotFinite}
-use Rattle.outcomes.specs.Asking.{Search, over, respond, shown, onceTold, firstOf}
+use Rattle.outcomes.specs.Asking.{Search, ask, over, respond, shown, onceTold, firstOf}
 use Rattle.outcomes.specs.Counters.{counted, iterations}
 use Rattle.outcomes.proofs.Machines.{Seen, seen, picks, counts-on}
 use Rattle.outcomes.specs.declared.Evaluations.{Evaluations}
@@ -46,17 +46,22 @@ use Rattle.backtracking.specs.Meaning.{meaning, meant, Starts, Follows}
 abbrev denote : Step → Seen ℕ
 denote t = (meant (t .search), told (t .outcome))
 
-asked-shown : (s : Setup) (k before now : ℕ) (t : Float) → shown (trials s k before now t) ≡ asks t
-unfolding trials shown
-asked-shown s zero before now t = refl
-asked-shown s (suc k) before now t = refl
+-- a trial is a question at its step
+pub question-at : (s : Setup) (k before now : ℕ) (t : Float)
+    → (then : Float → Float → Search ℕ) × (trials s k before now t ≡ ask before t then)
+unfolding trials
+question-at s zero before now t = (_, refl)
+question-at s (suc k) before now t = (_, refl)
 
--- a trial that is asked stands as it is, and tells its step
+-- so it tells that step, and stands as it is
+pub asked-shown : (s : Setup) (k before now : ℕ) (t : Float) → shown (trials s k before now t) ≡ asks t
+unfolding shown
+asked-shown s k before now t = ap shown (question-at s k before now t .1)
+
 asked : (s : Setup) (k before now : ℕ) (t : Float)
     → seen (trials s k before now t) ≡ (trials s k before now t, asks t)
-unfolding trials seen onceTold shown
-asked s zero before now t = refl
-asked s (suc k) before now t = refl
+unfolding seen onceTold shown
+asked s k before now t = rw (question-at s k before now t .1)
 
 module _ (s : Setup) (fits : s .limit < 4294967296) (m : Evaluations) (now : Iterations) (t : Float) where
   abbrev next-step : Float

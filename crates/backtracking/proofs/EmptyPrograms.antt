@@ -13,7 +13,7 @@ use borrow.Author.Tests.{leb-true, not-false}
 use Rattle.floats.specs.Arithmetic.{_⊗_, _<ᶠ_, 1ᶠ}
 use Rattle.outcomes.specs.Outcomes.{met, stop, limit, refusal, asks, ends, told}
 use Rattle.outcomes.specs.Outcomes.{answerNotFinite, stepNotFinite, numberOf}
-use Rattle.outcomes.specs.Asking.{Search, ask, over, respond, shown, reported, isOver, onceTold}
+use Rattle.outcomes.specs.Asking.{Search, over, respond, shown, reported, isOver, onceTold}
 use Rattle.outcomes.specs.Counters.{counted}
 use Rattle.outcomes.specs.Refusals.{refusedBy}
 use Rattle.outcomes.proofs.Branches.{and-first, and-second}
@@ -30,6 +30,7 @@ use Rattle.backtracking.specs.declared.Started.the-variants.{Began, NoSe
 use Rattle.backtracking.specs.Backtracking.{defaultsOf, limitInRange, parametersInRange, inRanges, startRows}
 use Rattle.backtracking.specs.Backtracking.{trials, search}
 use Rattle.backtracking.specs.Meaning.{meaning, meant, Starts, Follows}
+use Rattle.backtracking.proofs.Bridge.{question-at, asked-shown}
 
 -- ---- a start: where no row holds, no refusal meets `Starts`
 
@@ -74,13 +75,6 @@ later-waits b t e = record {
 }
 
 -- ---- what the rules do at an answer
-
--- a trial is a question
-question-at : (s : Setup) (k before now : ℕ) (x : Float)
-    → (then : Float → Float → Search ℕ) × (trials s k before now x ≡ ask before x then)
-unfolding trials
-question-at s zero before now x = (_, refl)
-question-at s (suc k) before now x = (_, refl)
 
 -- what an answer to the trial at x can come to
 data Comes (s : Setup) (now : ℕ) (x f g : Float) : Search ℕ → Type 0 where
@@ -145,10 +139,8 @@ module _ (s : Setup) (x : Float) (b : Backtracking) (waits : Waits s x b) (f g :
   tells : told (r .outcome) ≡ shown (respond here f g)
   tells = follows .tells ∙ ap (λ (q : Search ℕ). shown (respond q f g)) (waits .stands)
 
-  -- a shorter step that is asked is told
   asked : (k : ℕ) → shown (trials s k now (now + 1) (x ⊗ s .rho)) ≡ asks (x ⊗ s .rho)
-  unfolding shown
-  asked k = ap shown (question-at s k now (now + 1) (x ⊗ s .rho) .1)
+  asked k = asked-shown s k now (now + 1) (x ⊗ s .rho)
 
   -- a program that refuses everything: a finite answer is not refused, where the next step is finite too
   pub refusing-answer-shut-out : answerFinite (s .condition) f g ≡ true → finite (x ⊗ s .rho) ≡ true
@@ -212,8 +204,7 @@ asks-shorter : (s : Setup) (k before now : ℕ) (x f g : Float) → 1 ≤ k → 
     → shown (respond (trials s k before now x) f g) ≡ asks (x ⊗ s .rho)
 unfolding trials respond shown
 asks-shorter s zero before now x f g l p h q = absurd (omega arith)
-asks-shorter s (suc k) before now x f g l p h q =
-    rw (p, h, q) (ap shown (question-at s k now (now + 1) (x ⊗ s .rho) .1))
+asks-shorter s (suc k) before now x f g l p h q = rw (p, h, q) (asked-shown s k now (now + 1) (x ⊗ s .rho))
 
 -- after a finite first answer that does not meet the condition, the step asked is alpha * rho
 pub second-ask : (s : Setup) (t : Step) → Starts s (Began t) → (f g : Float) → answerFinite (s .condition) f g ≡ true

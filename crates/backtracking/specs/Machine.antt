@@ -52,6 +52,7 @@ StartSaid s r = startedTold r ≡ startOf s
 
 -- ---- an answer
 
+-- the answer at t, before which n evaluations and `before` iterations are counted
 unfoldable pub triedOf : Setup → Evaluations → Iterations → Iterations → Float → Float → Float → Step
 triedOf s n before now t f g =
     let m = evaluations (counted (n .0)) in
