@@ -1,5 +1,5 @@
 -- `backtracking::tried` meets its contract. Assumes nothing.
-use mathlib.Core.Path.{_≡_, _∙_}
+use mathlib.Core.Path.{_≡_}
 use mathlib.Core.Bool.{true, false}
 use borrow.Author.Tests.{le-leb, lt-leb}
 use Rattle.outcomes.proofs.Branches.{by-call, not-by-call, not-not-by-call}
@@ -27,15 +27,21 @@ returns-2 c =
     rw (
       is-finite (c .before .before .before .before),
       by-call _ _ _ (c .before .before .holds .ensures) (c .before .if2 .taken),
+      ← c .before .before .before .next .ensures,
     )
-    (c .made2 .ensures ∙ rw (c .before .before .before .next .ensures))
+    (c .made2 .ensures)
 
 returns-3 : tie.Need-returns-3
 unfolding triedOf
 returns-3 c =
     let unmet = c .before .before .before .before in
-    rw (is-finite (unmet .before .before .before), not-met unmet, le-leb _ _ (c .before .if3 .taken))
-    (c .made3 .ensures ∙ rw (unmet .before .before .next .ensures))
+    rw (
+      is-finite (unmet .before .before .before),
+      not-met unmet,
+      le-leb _ _ (c .before .if3 .taken),
+      ← unmet .before .before .next .ensures,
+    )
+    (c .made3 .ensures)
 
 returns-4 : tie.Need-returns-4
 unfolding triedOf
@@ -47,8 +53,9 @@ returns-4 c =
       not-met unmet,
       lt-leb _ _ (more .if3 .left),
       by-call _ _ _ (c .before .before .is-finite .ensures) (c .before .if4 .taken),
+      ← unmet .before .before .next .ensures,
     )
-    (c .made4 .ensures ∙ rw (unmet .before .before .next .ensures))
+    (c .made4 .ensures)
 
 returns-5 : tie.Need-returns-5
 unfolding triedOf
@@ -60,8 +67,9 @@ returns-5 c =
       not-met unmet,
       lt-leb _ _ (more .if3 .left),
       by-call _ _ _ (c .before .before .is-finite .ensures) (c .before .if4 .left),
+      ← unmet .before .before .next .ensures,
     )
-    (c .made5 .ensures ∙ rw (unmet .before .before .next .ensures))
+    (c .made5 .ensures)
 
 pub tried-spec : {M : Type 1} → statement M
 tried-spec =
