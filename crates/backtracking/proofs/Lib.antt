@@ -1,1 +1,3 @@
 pub mod Bridge
+pub mod Determined
+pub mod EmptyPrograms

@@ -1,12 +1,14 @@
--- 01's rules of backtracking: of "Parameters" its two, of "Numbers in, numbers refused" N and the order, and its sentences under "Conditions".
+-- 01's rules of backtracking: of "Parameters" its two, of "Numbers in, numbers refused" N, a start's two rows and their
+-- order, and its sentences under "Conditions".
 use Prim.Native.Nat.{ℕ, zero, suc, _+_}
-use mathlib.Core.Bool.{Bool, cond, _&&_}
+use mathlib.Core.Bool.{Bool, cond, not, _&&_}
+use mathlib.Core.List.{List, [], _∷_}
 use lib.Dec.{leb}
 use lib.Ieee.{Float, binary64, ofBits}
 use lib.Ieee.Scale.{finite}
 use Rattle.floats.specs.Arithmetic.{_⊗_, _<ᶠ_, 0ᶠ, 1ᶠ}
-use Rattle.numbers.specs.Results.{Result, value, unless_refuse_else_}
-use Rattle.outcomes.specs.Outcomes.{met, stop, limit, refusal}
+use Rattle.numbers.specs.Results.{Result, Row, refuse_else_}
+use Rattle.outcomes.specs.Outcomes.{met, stop, limit, refusal, stepNotFinite}
 use Rattle.outcomes.specs.Asking.{Search, over, keeping, question}
 use Rattle.conditions.specs.declared.Condition.{Condition}
 use Rattle.conditions.specs.Conditions.{constantsFinite, inRange, answerFinite, holdsOf}
@@ -25,7 +27,8 @@ defaultsOf C f0 s0 = record {
 }
 
 abbrev pub suppliedFinite : Setup → Bool
-suppliedFinite s = constantsFinite (s .condition) && finite (s .rho) && finite (s .alpha) && finite (s .f0) && finite (s .s0)
+suppliedFinite s =
+    constantsFinite (s .condition) && finite (s .rho) && finite (s .alpha) && finite (s .f0) && finite (s .s0)
 
 abbrev pub limitInRange : ℕ → Bool
 limitInRange n = leb 1 n && leb n 10000
@@ -36,28 +39,35 @@ parametersInRange s = inRange (s .condition) && 0ᶠ <ᶠ s .rho && s .rho <ᶠ 
 abbrev pub inRanges : Setup → Bool
 inRanges s = parametersInRange s && limitInRange (s .limit)
 
+-- 01's table, of a start: "a supplied number is NaN or infinite"; "a parameter, B, N or curve number is outside its
+-- range"
+abbrev pub startRows : Setup → List Row
+startRows s = (2, not (suppliedFinite s)) ∷ (3, not (inRanges s)) ∷ []
+
 -- ---- "Backtracking asks alpha, tests, then alpha*rho, and so on; each later trial is one iteration."
 
 module _ (s : Setup) where
-  -- A trial at t. Before its answer is accepted `before` iterations are counted, and a refusal keeps that count; with it there are `now`, one more, but at the first trial.
-  -- The stop has "the verdict "met" and the step"; "the verdict is tested first, then the limit".
+  -- A trial at t. Before its answer is accepted `before` iterations are counted, and a refusal keeps that count; with
+  -- it there are `now`, one more, but at the first trial. The stop has "the verdict "met" and the step"; "the verdict
+  -- is tested first, then the limit".
   abbrev tested : ℕ → ℕ → Float → Search ℕ → Search ℕ
   tested before now t further =
       question (answerFinite (s .condition)) (keeping before) before t λ f g.
       cond (holdsOf (s .condition) (s .f0) (s .s0) t f g) (over now (stop met t)) further
 
-  -- n trials may follow this one; "its limit has the last step tested". Refusal 5: "the next trial step comes out not finite; nothing is asked".
-  -- With rho below 1 a finite step never comes to that; 01's table names it for any search.
+  -- n trials may follow this one; "its limit has the last step tested". Refusal 5: "the next trial step comes out not
+  -- finite; nothing is asked". With rho below 1 a finite step never comes to that; 01's table names it for any search.
   unfoldable pub trials : ℕ → ℕ → ℕ → Float → Search ℕ
   trials zero before now t = tested before now t (over now (limit t))
   trials (suc n) before now t =
-      tested before now t (cond (finite (t ⊗ s .rho)) (trials n now (now + 1) (t ⊗ s .rho)) (over now (refusal 5)))
+      tested before now t
+      (cond (finite (t ⊗ s .rho))
+      (trials n now (now + 1) (t ⊗ s .rho))
+      (over now (refusal (stepNotFinite (t ⊗ s .rho)))))
 
 abbrev pub search : Setup → Search ℕ
 search s = trials s (s .limit) 0 0 (s .alpha)
 
+-- a start is refused by the first row that holds, or is this search
 abbrev pub started : Setup → Result (Search ℕ)
-started s =
-    unless (suppliedFinite s) refuse 2 else
-    unless (inRanges s) refuse 3 else
-    value (search s)
+started s = refuse (startRows s) else search s

@@ -1,16 +1,20 @@
--- The machine's own bookkeeping, which the contracts cite: nobody needs this to check 01. specs/Meaning.antt says what a state stands for in 01's
--- rules, proofs/Bridge.antt that every step is the rules' step, and demands/proofs/Backtracking.antt the same for any list of answers.
+-- The machine's own bookkeeping, which the contracts cite: nobody needs this to check 01. specs/Meaning.antt says what
+-- a state stands for in 01's rules, proofs/Bridge.antt that every step is the rules' step, and
+-- demands/proofs/Backtracking.antt the same for any list of answers.
+use mathlib.Core.Path.{_≡_}
 use mathlib.Core.Bool.{cond}
 use lib.Dec.{leb}
 use lib.Ieee.{Float}
 use lib.Ieee.Scale.{finite}
 use Rattle.floats.specs.Arithmetic.{_⊗_}
+use Rattle.numbers.specs.Results.{Result, value, refused, refuse_else_}
 use Rattle.outcomes.specs.declared.Evaluations.{Evaluations}
 use Rattle.outcomes.specs.declared.Iterations.{Iterations}
 use Rattle.outcomes.specs.declared.Outcome.{Outcome}
 use Rattle.outcomes.specs.declared.Outcome.the-variants.{Ask, Stop, Limit, Refused}
-use Rattle.outcomes.specs.declared.Refusal.the-variants.{SuppliedNotFinite, OutOfRange, StepNotFinite, AlreadyOver}
+use Rattle.outcomes.specs.declared.Refusal.the-variants.{SuppliedNotFinite, StepNotFinite, AlreadyOver}
 use Rattle.outcomes.specs.declared.Verdict.the-variants.{Met}
+use Rattle.outcomes.specs.Outcomes.{numberOf}
 use Rattle.outcomes.specs.Counters.{counted, evaluations, iterations}
 use Rattle.conditions.specs.Conditions.{answerFinite, holdsOf}
 use Rattle.backtracking.specs.declared.Setup.{Setup}
@@ -20,34 +24,54 @@ use Rattle.backtracking.specs.declared.Backtracking.{Backtracking}
 use Rattle.backtracking.specs.declared.Step.{Step}
 use Rattle.backtracking.specs.declared.Started.{Started}
 use Rattle.backtracking.specs.declared.Started.the-variants.{Began, NoSearch}
-use Rattle.backtracking.specs.Backtracking.{suppliedFinite, inRanges}
+use Rattle.backtracking.specs.Backtracking.{startRows}
 
 abbrev pub madeOf : Setup → Evaluations → Iterations → Stage → Outcome → Step
-madeOf s n i stage outcome = record { search = record { setup = s; evaluations = n; iterations = i; stage = stage }; outcome = outcome }
+madeOf s n i stage outcome = record {
+  search = record { setup = s; evaluations = n; iterations = i; stage = stage };
+  outcome = outcome;
+}
 
-abbrev pub startOf : Setup → Started
-startOf s =
-    cond (suppliedFinite s)
-    (cond (inRanges s) (Began (madeOf s (evaluations 0) (iterations 0) First (Ask (s .alpha)))) (NoSearch OutOfRange))
-    (NoSearch SuppliedNotFinite)
+-- ---- a start
 
-abbrev pub shortenedOf : Setup → Evaluations → Iterations → Float → Step
-shortenedOf s n i t =
-    cond (finite (t ⊗ s .rho)) (madeOf s n i (Later (t ⊗ s .rho)) (Ask (t ⊗ s .rho))) (madeOf s n i Over (Refused StepNotFinite))
+-- a search that waits for the answer at the first step, and has counted nothing
+abbrev pub fresh : Setup → Step
+fresh s = madeOf s (evaluations 0) (iterations 0) First (Ask (s .alpha))
 
+abbrev pub startOf : Setup → Result Step
+startOf s = refuse (startRows s) else fresh s
+
+-- what each case of `Started` tells, a refusal by 01's number
+abbrev pub startedTold : Started → Result Step
+startedTold (Began t) = value t
+startedTold (NoSearch k) = refused (numberOf k)
+
+-- what `start`'s contract says of its result; proofs/Determined.antt shows that this leaves only one
+abbrev pub StartSaid : Setup → Started → Type 0
+StartSaid s r = startedTold r ≡ startOf s
+
+-- ---- an answer
+
+-- the answer at t, before which n evaluations and `before` iterations are counted
 unfoldable pub triedOf : Setup → Evaluations → Iterations → Iterations → Float → Float → Float → Step
 triedOf s n before now t f g =
     let m = evaluations (counted (n .0)) in
     cond (answerFinite (s .condition) f g)
     (cond (holdsOf (s .condition) (s .f0) (s .s0) t f g) (madeOf s m now Over (Stop Met t))
     (cond (leb (s .limit) (now .0)) (madeOf s m now Over (Limit t))
-    (shortenedOf s m now t)))
+    (cond (finite (t ⊗ s .rho)) (madeOf s m now (Later (t ⊗ s .rho)) (Ask (t ⊗ s .rho)))
+    (madeOf s m now Over (Refused StepNotFinite)))))
     (madeOf s n before Over (Refused SuppliedNotFinite))
 
 unfoldable pub answerBy : Backtracking → Float → Float → Stage → Step
 answerBy s f g First = triedOf (s .setup) (s .evaluations) (s .iterations) (s .iterations) (s .setup .alpha) f g
-answerBy s f g (Later t) = triedOf (s .setup) (s .evaluations) (s .iterations) (iterations (counted (s .iterations .0))) t f g
+answerBy s f g (Later t) =
+    triedOf (s .setup) (s .evaluations) (s .iterations) (iterations (counted (s .iterations .0))) t f g
 answerBy s f g Over = record { search = s; outcome = Refused AlreadyOver }
 
 abbrev pub answerOf : Backtracking → Float → Float → Step
 answerOf s f g = answerBy s f g (s .stage)
+
+-- what `answer`'s contract says of its result
+abbrev pub AnswerSaid : Backtracking → Float → Float → Step → Type 0
+AnswerSaid s f g r = r ≡ answerOf s f g

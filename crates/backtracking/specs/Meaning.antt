@@ -1,9 +1,10 @@
--- What a state stands for in 01's rules: the search that is left. And what `start` and `answer` promise in the rules' terms.
+-- What a state stands for in 01's rules: the search that is left. And what `start` and `answer` promise in the rules'
+-- terms.
 use Prim.Native.Nat.{ℕ, _-_}
 use mathlib.Core.Path.{_≡_}
 use lib.Ieee.{Float}
 use Rattle.numbers.specs.Results.{Result, value, refused}
-use Rattle.outcomes.specs.Outcomes.{refusal, Told, ends, numberOf, told}
+use Rattle.outcomes.specs.Outcomes.{refusal, alreadyOver, Told, ends, numberOf, told}
 use Rattle.outcomes.specs.Asking.{Search, over, respond, shown, firstOf, onceTold}
 use Rattle.outcomes.specs.Counters.{counted}
 use Rattle.backtracking.specs.declared.Setup.{Setup}
@@ -15,10 +16,11 @@ use Rattle.backtracking.specs.declared.Started.{Started}
 use Rattle.backtracking.specs.declared.Started.the-variants.{Began, NoSearch}
 use Rattle.backtracking.specs.Backtracking.{trials, started}
 
+-- i iterations are counted
 unfoldable pub meaning : Setup → ℕ → Stage → Search ℕ
 meaning s i First = trials s (s .limit - i) i i (s .alpha)
 meaning s i (Later t) = trials s (s .limit - counted i) i (counted i) t
-meaning s i Over = over i (refusal 8)
+meaning s i Over = over i (refusal alreadyOver)
 
 abbrev pub meant : Backtracking → Search ℕ
 meant s = meaning (s .setup) (s .iterations .0) (s .stage)

@@ -1,5 +1,5 @@
-// Backtracking (argmin's backtracking.rs): the step is shrunk until a condition is met. The search hands out a step, and is given cost and
-// slope there.
+// Backtracking (argmin's backtracking.rs): the step is shrunk until a condition is met. The search hands out a step,
+// and is given cost and slope there.
 
 use conditions::Condition;
 use outcomes::Evaluations;
@@ -8,9 +8,8 @@ use outcomes::Outcome;
 use outcomes::Refusal;
 use outcomes::Verdict;
 ghost use mathlib.Core.Path.{_≡_};
-ghost use Prim.Native.Nat.{_<_};
 ghost use Rattle.backtracking.specs.Backtracking.{suppliedFinite, inRanges, defaultsOf};
-ghost use Rattle.backtracking.specs.Machine.{startOf, madeOf, shortenedOf, triedOf, answerOf};
+ghost use Rattle.backtracking.specs.Machine.{madeOf, triedOf, StartSaid, AnswerSaid};
 ghost use Rattle.backtracking.specs.Meaning.{Starts, Follows};
 
 // What does not change in a search.
@@ -110,7 +109,7 @@ fn in_ranges(s: Setup) -> bool
 
 // A search that asks the first step, or why there is none.
 pub fn start(s: Setup) -> Started
-    ensures exact { λ r. ⌜ r ≡ startOf s ⌝ }
+    ensures exact { λ r. ⌜ StartSaid s r ⌝ }
     ensures rules { λ r. ⌜ Starts s r ⌝ }
 {
     if !supplied_finite(s) {
@@ -128,24 +127,8 @@ pub fn start(s: Setup) -> Started
     ))
 }
 
-// The next trial, at t * rho (5).
-fn shortened(s: Setup, n: Evaluations, i: Iterations, t: f64) -> Step
-    ensures { λ r. ⌜ r ≡ shortenedOf s n i t ⌝ }
-{
-    let shorter = t * s.rho;
-    if numbers::is_finite(shorter) {
-        return made(s, n, i, Stage::Later(shorter), Outcome::Ask(shorter));
-    }
-    made(
-        s,
-        n,
-        i,
-        Stage::Over,
-        Outcome::Refused(Refusal::StepNotFinite),
-    )
-}
-
-// The answer at the step t, before which `before` iterations were counted and with which there are `now`.
+// The answer at the step t, before which `before` iterations were counted and with which there are `now`: refused (2),
+// the end by the condition or by the limit, or the next trial, at t * rho (5).
 fn tried(
     s: Setup,
     n: Evaluations,
@@ -174,13 +157,23 @@ fn tried(
     if s.limit <= now.0 {
         return made(s, m, now, Stage::Over, Outcome::Limit(t));
     }
-    shortened(s, m, now, t)
+    let shorter = t * s.rho;
+    if numbers::is_finite(shorter) {
+        return made(s, m, now, Stage::Later(shorter), Outcome::Ask(shorter));
+    }
+    made(
+        s,
+        m,
+        now,
+        Stage::Over,
+        Outcome::Refused(Refusal::StepNotFinite),
+    )
 }
 
-// One answer, cost f and slope g: the search with it, and what comes next. It is the step that 01's rules take (the limit is below 2^32, as every u32 is).
+// One answer, cost f and slope g: the search with it, and what comes next. It is the step that 01's rules take.
 pub fn answer(s: Backtracking, f: f64, g: f64) -> Step
-    ensures exact { λ r. ⌜ r ≡ answerOf s f g ⌝ }
-    ensures rules { λ r. ⌜ (s .setup .limit < 4294967296 → Follows s f g r) ⌝ }
+    ensures exact { λ r. ⌜ AnswerSaid s f g r ⌝ }
+    ensures rules { λ r. ⌜ Follows s f g r ⌝ }
 {
     let stage = s.stage;
     match stage {
