@@ -1,74 +1,125 @@
--- Demand 3 of a search that `start` accepts, for every list of answers: its bracket stays one, each finished iteration's lies within the former, and each end is a
--- former end or a point asked in that iteration with its answer; and its counts. From the rules (rules/proofs/Demand3.antt), which the machine reports. Assumes nothing.
-use mathlib.Core.Path.{_≡_, refl, sym, _∙_}
-use mathlib.Core.List.{List, [], _∷_, _++_}
-use Prim.Native.Nat.{_+_, _*_, _≤_}
+-- Demand 3 of every Hager-Zhang search that `start` gave: its bracket, its bounds and its counts (`demand3`). From the rules
+-- (rules/proofs/Demand3.antt), which the machine tells, holds and counts. Assumes nothing.
+use mathlib.Core.Path.{_≡_, refl, sym, ap, _∙_, subst}
+use mathlib.Core.Bool.{Bool, true, false, false≢true}
+use mathlib.Core.List.{List, [], _∷_}
+use Prim.Native.Nat.{ℕ, _+_, _*_, _≤_}
+use native.Mathlib.Omega.{arith}
 use lib.ListN.{length}
-use Rattle.outcomes.specs.Asking.{Search as Rest, Reply, respond, reported, after}
+use lib.Ieee.{Float}
+use Rattle.numbers.specs.Results.{value}
+use Rattle.outcomes.specs.Outcomes.{Ending, stop, limit, refusal, Why, ends, asks, numbered}
+use Rattle.outcomes.specs.Asking.{Search as Rest, ask, end, Over, over, Reply, respond, shown, reported, after}
+use Rattle.outcomes.proofs.Apart.{same-end, asks-not-ends}
+use Rattle.outcomes.proofs.Ends.{Ends as EndsWithin, ends-over, ends-accepted, non-finite-once}
+use Rattle.outcomes.proofs.Refusals.{Passed, passed}
 use Rattle.rules.specs.declared.Point.{Point}
+use Rattle.rules.specs.declared.Options.{Options}
 use Rattle.rules.specs.declared.Setup.{Setup}
-use Rattle.hagerzhang.specs.declared.Search.{Search}
-use Rattle.rules.specs.Rules.{Last, Report, last, search}
-use Rattle.hagerzhang.specs.Meaning.{report}
-use Rattle.rules.proofs.Ranges.{low-below-high}
-use Rattle.rules.proofs.Iterations.{Bracketed, Within}
-use Rattle.rules.proofs.EachIteration.{Finished}
-use Rattle.rules.proofs.Along.{noted, under-way, finished-by, Moves}
+use Rattle.rules.specs.Parameters.{setupOf, startRows}
+use Rattle.rules.specs.Rules.{answerFinite, Last, Report, noneYet, last, iterationsIn, search}
+use Rattle.rules.specs.Iterations.{
+  Premise, Bracketed, Within, Finished, Moves, under-way, Ends, verdict, at-limit, not-finite, trial-not-finite,
+  U3-not-finite, spent, not-between, already
+}
+use Rattle.rules.proofs.Ranges.{level-finite, min-finite, max-finite, start-finite, most-answers}
+use Rattle.rules.proofs.Bounds.{search-within}
 use Rattle.rules.proofs.Demand3 as rules
-use Rattle.demands.proofs.Demand2.{FreshSearch, reachedBy, report-is-rules}
+use Rattle.hagerzhang.specs.declared.Search.{Search}
+use Rattle.hagerzhang.specs.declared.Step.{Step}
+use Rattle.hagerzhang.specs.Machine.{fresh, startOf}
+use Rattle.hagerzhang.specs.Meaning.{report}
+use Rattle.demands.specs.Runs.{reachedBy, toldAt, one-more, isOver, finiteBy, notFiniteBy, askedBy, askedAt, finishedBy}
+use Rattle.demands.specs.Demand3.{AtLimit, Demand3}
+use Rattle.demands.proofs.Along.{
+  after-one-more, report-at, report-next, over-at, told-at, asked-by, asked-at, finished-at, tallied-is, evaluations-are
+}
 
-after-one-more : (r : Rest Report) (ys : List Reply) (y : Reply) → after r (ys ++ (y ∷ [])) ≡ respond (after r ys) (y .0) (y .1)
-unfolding after
-after-one-more r [] y = refl
-after-one-more r (z ∷ ys) y = after-one-more (respond r (z .0) (z .1)) ys y
+-- ---- an ending by the limit is at the N-th iteration
+step-at : Float → Ending ℕ → Float
+step-at x (stop w y) = x
+step-at x (limit y) = y
+step-at x (refusal n) = x
 
--- ya, yb and yc are the answers at min, max and the start step
-module _ (s : Setup) (b : Search) (new : FreshSearch s b) (ya yb yc : Reply) (ys : List Reply) where
-  abbrev given : List Reply
-  given = ya ∷ yb ∷ yc ∷ ys
+is-limit : Ending ℕ → Bool
+is-limit (stop w y) = false
+is-limit (limit y) = true
+is-limit (refusal n) = false
 
-  reported-here : report (reachedBy b given) ≡ reported (after (rules.begun s ya yb yc) ys)
-  unfolding after
-  reported-here = report-is-rules s b new given
+limit-reached : (s : Setup) (k : Report) (asked : List Point) (e : Ending Why) (x : Float) → Ends s k asked e → numbered e ≡ limit x
+    → AtLimit (s .options .limit) x k
+unfolding step-at is-limit
+limit-reached s k asked e x (at-limit {p = p} fails n) is = record { p = p; holds = refl; iterations = n; best = ap (step-at x) is }
+limit-reached s k asked e x (verdict j) is = absurd (false≢true (ap is-limit is))
+limit-reached s k asked e x (not-finite u) is = absurd (false≢true (ap is-limit is))
+limit-reached s k asked e x (trial-not-finite t u) is = absurd (false≢true (ap is-limit is))
+limit-reached s k asked e x (U3-not-finite t u) is = absurd (false≢true (ap is-limit is))
+limit-reached s k asked e x (spent t n) is = absurd (false≢true (ap is-limit is))
+limit-reached s k asked e x (not-between t u n) is = absurd (false≢true (ap is-limit is))
+limit-reached s k asked e x already is = absurd (false≢true (ap is-limit is))
 
-  reported-next : (y : Reply) → report (reachedBy b (given ++ (y ∷ []))) ≡ reported (respond (after (rules.begun s ya yb yc) ys) (y .0) (y .1))
-  unfolding after
-  reported-next y = report-is-rules s b new (given ++ (y ∷ [])) ∙ rw (after-one-more (search s) given y)
+-- ---- a start that no row refuses
+module _ (o : Options) (f0 s0 : Float) (ok : Passed (startRows o f0 s0)) where
+  abbrev s : Setup
+  s = setupOf o f0 s0
 
-  -- the points asked in the iteration under way, with their answers
-  abbrev asked : List Point
-  asked = under-way [] (rules.begun s ya yb yc) ys
+  abbrev t : Step
+  t = fresh s
 
-  abbrev asked-with : Reply → List Point
-  asked-with y = noted (after (rules.begun s ya yb yc) ys) y asked
+  abbrev b : Search
+  b = t .search
 
-  -- "Each end is, bit for bit, a former end or a step asked in that iteration with its answer": whatever the slopes are; and "at most 3+3B answers"
-  pub each-iteration : (y : Reply) (p q : Last) → report (reachedBy b given) ≡ last p → report (reachedBy b (given ++ (y ∷ []))) ≡ last q → q .iterations ≡ p .iterations + 1
-      → Finished s p (asked-with y) q
-  each-iteration y p q e e' n = rules.each-iteration s ya yb yc ys y p q (sym reported-here ∙ e) (sym (reported-next y) ∙ e') n
+  within : EndsWithin answerFinite (3 + o .limit * (3 + 3 * o .budget)) (search s)
+  within = search-within s (level-finite o f0 s0 ok) (min-finite o f0 s0 ok) (max-finite o f0 s0 ok) (start-finite o f0 s0 ok)
 
-  -- each answer leaves the report as it was, or finishes the iteration under way, and then one more is counted
-  pub each-answer : (y : Reply) → Moves (Finished s) (asked-with y) (report (reachedBy b given)) (report (reachedBy b (given ++ (y ∷ []))))
-  each-answer y = rw (reported-here, reported-next y) (rules.each-answer s ya yb yc ys y)
+  few-finite : (ys : List Reply) → finiteBy b ys ≤ 30030003
+  few-finite ys =
+      let same = tallied-is o f0 s0 ok answerFinite ys in
+      let h = ends-accepted answerFinite within ys in
+      let most = most-answers o f0 s0 ok in
+      omega arith
 
-  -- "an iteration takes at most 3+3B answers" (of the rules, and so of the machine, which asks as they do): also one that is not finished, and whether its last answer is finite or not
-  pub iteration-bounded : length asked ≤ 3 + 3 * s .options .budget
-  iteration-bounded = rules.iteration-bounded s ya yb yc ys
+  few-iterations : (ys : List Reply) (k : Report) → report (reachedBy b ys) ≡ k → iterationsIn k ≤ o .limit
+  few-iterations ys noneYet e = omega arith
+  few-iterations ys (last p) e = rules.iterations-bounded o f0 s0 ok ys p (sym (report-at o f0 s0 ok ys) ∙ e)
 
-  -- the iterations that are reported are those that the answers finished
-  pub iterations-counted : (p : Last) → report (reachedBy b given) ≡ last p → p .iterations ≡ finished-by (rules.begun s ya yb yc) ys
-  iterations-counted p e = rules.iterations-counted s ya yb yc ys p (sym reported-here ∙ e)
+  ended : (ys : List Reply) (y : Reply) (x : Float) (r : Rest Report) → respond (after (search s) ys) (y .0) (y .1) ≡ r
+      → shown r ≡ ends (limit x) → AtLimit (o .limit) x (reported r)
+  unfolding shown reported
+  ended ys y x (ask k z then) is e = absurd (asks-not-ends z (limit x) (sym e))
+  ended ys y x (end e) is shows =
+      limit-reached s (e .keeps) (under-way [] (search s) (one-more ys y)) (e .by) x
+      (rules.ends o f0 s0 ok (one-more ys y) (e .keeps) (e .by) (after-one-more (search s) ys y ∙ is)) (same-end (numbered (e .by)) (limit x) shows)
 
-  -- N at most, so that the counter never stops
-  pub iterations-bounded : (p : Last) → report (reachedBy b given) ≡ last p → p .iterations ≤ s .options .limit
-  iterations-bounded p e = rules.iterations-bounded s ya yb yc ys p (sym reported-here ∙ e)
+  of-fresh : Demand3 o f0 s0 t
+  of-fresh = record {
+    bracket-stays = λ ya yb yc ys premise p e.
+    rules.bracket-stays o f0 s0 ok ya yb yc premise ys p (sym (report-at o f0 s0 ok (ya ∷ yb ∷ yc ∷ ys)) ∙ e);
+    bracket-narrows = λ ya yb yc ys premise y p q e e' n.
+    let given = ya ∷ yb ∷ yc ∷ ys in
+    rules.bracket-narrows o f0 s0 ok ya yb yc premise ys y p q (sym (report-at o f0 s0 ok given) ∙ e) (sym (report-next o f0 s0 ok given y) ∙ e') n;
+    each-iteration = λ ys y p q e e' n.
+    rw (asked-at o f0 s0 ok ys y)
+    (rules.each-iteration o f0 s0 ok ys y p q (sym (report-at o f0 s0 ok ys) ∙ e) (sym (report-next o f0 s0 ok ys y) ∙ e') n);
+    iteration-bounded = λ ys. rw (asked-by o f0 s0 ok ys) (rules.iteration-bounded o f0 s0 ok ys);
+    search-ends = λ ys h. over-at o f0 s0 ok ys ∙ ends-over within ys h;
+    evaluations-counted = λ ys.
+    let same = tallied-is o f0 s0 ok answerFinite ys in
+    let few = few-finite ys in
+    evaluations-are o f0 s0 ok ys (omega arith) ∙ sym same;
+    evaluations-bounded = few-finite;
+    each-answer = λ ys y.
+    rw (asked-at o f0 s0 ok ys y, report-at o f0 s0 ok ys, report-next o f0 s0 ok ys y) (rules.each-answer o f0 s0 ok ys y);
+    iterations-counted = λ ys.
+    ap iterationsIn (report-at o f0 s0 ok ys) ∙ rules.iterations-counted o f0 s0 ok ys ∙ sym (finished-at o f0 s0 ok ys);
+    iterations-bounded = λ ys. few-iterations ys (report (reachedBy b ys)) refl;
+    at-limit = λ ys y x e.
+    rw (report-next o f0 s0 ok ys y) (ended ys y x (respond (after (search s) ys) (y .0) (y .1)) refl (sym (told-at o f0 s0 ok ys y) ∙ e));
+    non-finite-once = λ ys. rw (tallied-is o f0 s0 ok _ ys) (non-finite-once within ys);
+  }
 
-  module _ (premise : rules.Premise s ya yb) where
-    -- "after each finished iteration the bracket meets the same three, low step < high step"
-    pub bracket-stays : (p : Last) → report (reachedBy b given) ≡ last p → Bracketed (s .level) (p .bracket)
-    bracket-stays p e = rules.bracketed (report (reachedBy b given)) p (rw reported-here (rules.bracket-stays s ya yb yc (low-below-high (s .options) (new .accepted-setup .ranges)) premise ys)) e
-
-    -- "it lies within the former bracket"
-    pub bracket-narrows : (y : Reply) (p q : Last) → report (reachedBy b given) ≡ last p → report (reachedBy b (given ++ (y ∷ []))) ≡ last q → q .iterations ≡ p .iterations + 1
-        → Within (p .bracket) (q .bracket)
-    bracket-narrows y p q e e' n = each-iteration y p q e e' n .sound .inside (bracket-stays p e)
+-- ---- every search that `start` gave
+pub demand3 : (o : Options) (f0 s0 : Float) (t : Step) → startOf o f0 s0 ≡ value t → Demand3 o f0 s0 t
+demand3 o f0 s0 t began =
+    let given = passed (startRows o f0 s0) (fresh (setupOf o f0 s0)) t began in
+    subst (Demand3 o f0 s0) (given .1) (of-fresh o f0 s0 (given .0))

@@ -1,3 +1,4 @@
-pub mod Refusals
-pub mod BacktrackingRefusals
-pub mod HagerZhangRefusals
+pub mod Runs
+pub mod Demand2
+pub mod Demand3
+pub mod Backtracking

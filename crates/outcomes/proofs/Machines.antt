@@ -1,7 +1,7 @@
 -- From one answer to any list: a machine each of whose steps is the rules' step tells what the rules tell, reports what they report, and counts what
 -- they accept, for every list of answers. Once for every search. Assumes nothing.
 use mathlib.Core.Path.{_≡_, refl, ap, ap₂, _∙_}
-use mathlib.Core.Bool.{Bool, true, false, cond}
+use mathlib.Core.Bool.{Bool, true, false, cond, not, _&&_}
 use mathlib.Core.List.{List, [], _∷_}
 use Prim.Native.Nat.{ℕ, _+_, _<_}
 use native.Mathlib.Omega.{arith}
@@ -10,7 +10,7 @@ use lib.Ieee.{Float}
 use borrow.Author.Tests.{lt-ltb}
 use Rattle.outcomes.specs.Outcomes.{Told}
 use Rattle.outcomes.specs.Counters.{counted}
-use Rattle.outcomes.specs.Asking.{ask, end, Search, Over, Reply, respond, shown, reported, isOver, onceTold, outcomes, after, accepted, reached, played}
+use Rattle.outcomes.specs.Asking.{ask, end, Search, Over, Reply, respond, shown, reported, isOver, onceTold, outcomes, after, accepted, reached, played, tallied}
 
 module _ {K : Type 0} where
   responds : (r : Search K) (f g : Float) → respond (onceTold r) f g ≡ respond r f g
@@ -105,6 +105,25 @@ module _ {S K : Type 0} (meant : S → Search K) (next : S → Float → Float �
       reaches h e (next s (y .0) (y .1)) (fit-next s v (y .0) (y .1)) ys
       ∙ ap (λ (r : Search K). h (after r ys)) (leaves s v (y .0) (y .1))
       ∙ same-after h e (respond (meant s) (y .0) (y .1)) ys
+
+  -- the answers that pass a test while the machine asks are those that pass it while the rules ask
+  module _ (asking : S → Bool) (same : (s : S) → asking s ≡ not (isOver (meant s))) (test : Float → Float → Bool) where
+    counts-step : (b t : Bool) (r : Search K) (y : Reply) (ys : List Reply) → b ≡ not (isOver r) → t ≡ test (y .0) (y .1)
+        → cond (b && t) 1 0 + accepted test (respond r (y .0) (y .1)) ys ≡ accepted test r (y ∷ ys)
+    unfolding accepted respond isOver
+    counts-step b t (ask k x then) y ys e h = rw (e, h)
+    counts-step b t (end o) y ys e h = rw (e, none-more _ test ys)
+
+    pub tests-counted : (s : S) → Fit s → (ys : List Reply) → tallied next asking test s ys ≡ accepted test (meant s) ys
+    unfolding tallied
+    tests-counted s v [] = unfold accepted in refl
+    tests-counted s v (y ∷ ys) =
+        let n = next s (y .0) (y .1) in
+        ap (λ (m : ℕ). cond (asking s && test (y .0) (y .1)) 1 0 + m)
+        (tests-counted n (fit-next s v (y .0) (y .1)) ys
+        ∙ ap (λ (r : Search K). accepted test r ys) (leaves s v (y .0) (y .1))
+        ∙ same-accepted test (respond (meant s) (y .0) (y .1)) ys)
+        ∙ counts-step (asking s) (test (y .0) (y .1)) (meant s) y ys (same s) refl
 
   -- a counter that each accepted answer raises by one, as long as it is below the largest u32
   module _ (finite : Float → Float → Bool) (count : S → ℕ)

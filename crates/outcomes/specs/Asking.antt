@@ -1,7 +1,8 @@
--- 01, "What changes shape": "the search hands out a request and is given the answer .. One ask covers cost and slope." The rules of a search are
--- written as a run: it asks for cost and slope at a step and goes on by the answer, until it has a result.
+-- 01, "What changes shape": "the search hands out a request and is given the answer .. One ask covers cost and slope." The
+-- rules of a search are written as a run: it asks for cost and slope at a step and goes on by the answer, until it has a
+-- result.
 use Prim.Native.Nat.{ℕ, _+_}
-use mathlib.Core.Bool.{Bool, true, false, cond, not}
+use mathlib.Core.Bool.{Bool, true, false, cond, not, _&&_}
 use mathlib.Core.List.{List, [], _∷_}
 use mathlib.Core.Option.{Option, some, none}
 use lib.Ieee.{Float}
@@ -56,7 +57,8 @@ module _ {K : Type 0} where
   isOver (ask k x then) = false
   isOver (end o) = true
 
-  -- what is left of a search once it has told its outcome: where it ended, it refuses whatever is said to it (8). A state of the machine stands for this
+  -- what is left of a search once it has told its outcome: where it ended, it refuses whatever is said to it (8). A state
+  -- of the machine stands for this
   unfoldable pub onceTold : Search K → Search K
   onceTold (ask k x then) = ask k x then
   onceTold (end o) = over (o .keeps) (refusal alreadyOver)
@@ -80,7 +82,8 @@ module _ {K : Type 0} where
   unfoldable pub accepted : (Float → Float → Bool) → Search K → List Reply → ℕ
   accepted isFinite r [] = 0
   accepted isFinite (end o) (y ∷ ys) = 0
-  accepted isFinite (ask k x then) (y ∷ ys) = cond (isFinite (y .0) (y .1)) 1 0 + accepted isFinite (then (y .0) (y .1)) ys
+  accepted isFinite (ask k x then) (y ∷ ys) =
+      cond (isFinite (y .0) (y .1)) 1 0 + accepted isFinite (then (y .0) (y .1)) ys
 
   -- and those given while it asks that do not
   abbrev pub notFinite : (Float → Float → Bool) → Search K → List Reply → ℕ
@@ -91,12 +94,19 @@ module _ {K R : Type 0} (isFinite : Float → Float → Bool) (refuse : Why → 
   abbrev pub question : Float → (Float → Float → Run K R) → Run K R
   question x then = ask k x (λ f g. cond (isFinite f g) (then f g) (end (refuse (answerNotFinite f g))))
 
--- ---- a machine with states S, of which `next` gives the next state and `says` what is told: the same for any list of answers
+-- ---- a machine with states S, of which `next` gives the next state: the same for any list of answers
 module _ {S : Type 0} (next : S → Float → Float → S) where
   unfoldable pub reached : S → List Reply → S
   reached s [] = s
   reached s (y ∷ ys) = reached (next s (y .0) (y .1)) ys
 
+  -- what is told, by `says`
   unfoldable pub played : (S → Float → Float → Told) → S → List Reply → List Told
   played says s [] = []
   played says s (y ∷ ys) = says s (y .0) (y .1) ∷ played says (next s (y .0) (y .1)) ys
+
+  -- how many of the answers are given while it asks, and pass the test
+  unfoldable pub tallied : (S → Bool) → (Float → Float → Bool) → S → List Reply → ℕ
+  tallied asking test s [] = 0
+  tallied asking test s (y ∷ ys) =
+      cond (asking s && test (y .0) (y .1)) 1 0 + tallied asking test (next s (y .0) (y .1)) ys

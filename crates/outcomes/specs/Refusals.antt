@@ -1,4 +1,5 @@
--- 01's table "Numbers in, numbers refused", as the definitions of the crates above fill it: rows with their "Given exactly when", in 01's order.
+-- 01's table "Numbers in, numbers refused", as the definitions of the crates above fill it: rows with their "Given
+-- exactly when", in 01's order.
 use Prim.Native.Nat.{ℕ}
 use mathlib.Core.Path.{_≡_}
 use mathlib.Core.Bool.{Bool, true, false, cond}
@@ -17,13 +18,14 @@ unfoldable pub given : List Row → Option ℕ
 given [] = none
 given (r ∷ rows) = cond (r .1) (some (r .0)) (given rows)
 
--- whether the rows come in that order
+-- whether the rows come in that order; several may have one number
 unfoldable pub inOrder : List ℕ → List Row → Bool
 inOrder numbers [] = true
 inOrder [] (r ∷ rows) = false
-inOrder (n ∷ numbers) (r ∷ rows) = cond (eqb n (r .0)) (inOrder numbers rows) (inOrder numbers (r ∷ rows))
+inOrder (n ∷ numbers) (r ∷ rows) = cond (eqb n (r .0)) (inOrder (n ∷ numbers) rows) (inOrder numbers (r ∷ rows))
 
--- refused by a table, or not at all: what is given, if anything, is the first row's number that applies, and the rows come in 01's order
+-- refused by a table, or not at all: what is given, if anything, is the first row's number that applies, and the rows
+-- come in 01's order
 pub record Table (number : Option ℕ) (rows : List Row) : Type 0 where
   pub exactly : number ≡ given rows
   pub ordered : inOrder order rows ≡ true

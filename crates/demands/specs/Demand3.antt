@@ -1,0 +1,83 @@
+-- Demand 3: the bracket, the bounds and the counts, of a Hager-Zhang search that `start` gave, t, for every list of answers.
+-- Its words stand in rules/specs/Iterations.antt. (Backtracking: specs/Backtracking.antt.)
+use Prim.Native.Nat.{ℕ, _+_, _*_, _≤_}
+use mathlib.Core.Path.{_≡_}
+use mathlib.Core.Bool.{true}
+use mathlib.Core.List.{List, _∷_}
+use lib.ListN.{length}
+use lib.Ieee.{Float}
+use Rattle.outcomes.specs.Outcomes.{limit, ends}
+use Rattle.outcomes.specs.Asking.{Reply}
+use Rattle.rules.specs.declared.Point.{Point}
+use Rattle.rules.specs.declared.Options.{Options}
+use Rattle.rules.specs.declared.Setup.{Setup}
+use Rattle.rules.specs.Parameters.{setupOf}
+use Rattle.rules.specs.Rules.{point, Last, Report, last, iterationsIn}
+use Rattle.rules.specs.Iterations.{Premise, Bracketed, Within, Finished, Moves}
+use Rattle.hagerzhang.specs.declared.Search.{Search}
+use Rattle.hagerzhang.specs.declared.Step.{Step}
+use Rattle.hagerzhang.specs.Meaning.{report}
+use Rattle.demands.specs.Runs.{
+  reachedBy, toldAt, one-more, isOver, finiteBy, notFiniteBy, askedBy, askedAt, finishedBy
+}
+
+-- a search ended at its n-th iteration, with the best step x
+pub record AtLimit (n : ℕ) (x : Float) (held : Report) : Type 0 where
+  pub p : Last
+  pub holds : held ≡ last p
+  pub iterations : p .iterations ≡ n
+  pub best : p .best .x ≡ x
+
+module _ (o : Options) (f0 s0 : Float) (t : Step) where
+  abbrev s : Setup
+  s = setupOf o f0 s0
+
+  abbrev b : Search
+  b = t .search
+
+  -- "the answered starting ends"
+  abbrev low-end : Reply → Point
+  low-end y = point (o .params .min) (y .0) (y .1)
+
+  abbrev high-end : Reply → Point
+  high-end y = point (o .params .max) (y .0) (y .1)
+
+  pub record Demand3 : Type 0 where
+    -- "Let the answered starting ends have low slope < 0, low cost <= L .. and high slope >= 0. Then after each finished
+    -- iteration the bracket meets the same three, low step < high step": whatever bracket is held after any answers
+    pub bracket-stays : (ya yb yc : Reply) (ys : List Reply) → Premise (s .level) (low-end ya) (high-end yb)
+        → (p : Last) → report (reachedBy b (ya ∷ yb ∷ yc ∷ ys)) ≡ last p → Bracketed (s .level) (p .bracket)
+    -- "and it lies within the former bracket": where one more answer counts one more iteration
+    pub bracket-narrows : (ya yb yc : Reply) (ys : List Reply) → Premise (s .level) (low-end ya) (high-end yb)
+        → (y : Reply) (p q : Last)
+        → report (reachedBy b (ya ∷ yb ∷ yc ∷ ys)) ≡ last p
+        → report (reachedBy b (one-more (ya ∷ yb ∷ yc ∷ ys) y)) ≡ last q
+        → q .iterations ≡ p .iterations + 1
+        → Within (p .bracket) (q .bracket)
+    -- "Each end is, bit for bit, a former end or a step asked in that iteration with its answer": whatever the slopes are;
+    -- and its answers are those of a whole iteration
+    pub each-iteration : (ys : List Reply) (y : Reply) (p q : Last)
+        → report (reachedBy b ys) ≡ last p
+        → report (reachedBy b (one-more ys y)) ≡ last q
+        → q .iterations ≡ p .iterations + 1
+        → Finished s p (askedAt b ys y) q
+    -- "an iteration takes at most 3+3B answers": also one that is not finished
+    pub iteration-bounded : (ys : List Reply) → length (askedBy b ys) ≤ 3 + 3 * o .budget
+    -- "any search ends within 3+N(3+3B)"
+    pub search-ends : (ys : List Reply) → 3 + o .limit * (3 + 3 * o .budget) ≤ length ys
+        → isOver (reachedBy b ys .stage) ≡ true
+    -- "The reported evaluations equal the finite answers accepted": no counter stops
+    pub evaluations-counted : (ys : List Reply) → reachedBy b ys .evaluations .0 ≡ finiteBy b ys
+    pub evaluations-bounded : (ys : List Reply) → finiteBy b ys ≤ 30030003
+
+    -- 01 on the counts: each answer leaves the report as it was, or gives the first, or finishes an iteration, which is
+    -- counted; so the iterations are those that the answers finished, N at most
+    pub each-answer : (ys : List Reply) (y : Reply)
+        → Moves (Finished s) (askedAt b ys y) (report (reachedBy b ys)) (report (reachedBy b (one-more ys y)))
+    pub iterations-counted : (ys : List Reply) → iterationsIn (report (reachedBy b ys)) ≡ finishedBy b ys
+    pub iterations-bounded : (ys : List Reply) → iterationsIn (report (reachedBy b ys)) ≤ o .limit
+    -- ""limit", with bracket and best of the N-th iteration"
+    pub at-limit : (ys : List Reply) (y : Reply) (x : Float) → toldAt b ys y ≡ ends (limit x)
+        → AtLimit (o .limit) x (report (reachedBy b (one-more ys y)))
+    -- an answer that is not finite is at most one
+    pub non-finite-once : (ys : List Reply) → notFiniteBy b ys ≤ 1

@@ -1,0 +1,81 @@
+-- A Hager-Zhang search of the machine, along any answers: the state that is reached, what is told, what was asked in the
+-- iteration under way, and what is counted. `answerOf` is what `answer` gives, by its contract.
+use Prim.Native.Nat.{ℕ, _+_}
+use mathlib.Core.Bool.{Bool, true, false, cond, not}
+use mathlib.Core.List.{List, [], _∷_, _++_}
+use mathlib.Core.Option.{Option, some, none}
+use lib.Dec.{ltb}
+use lib.Ieee.{Float}
+use Rattle.outcomes.specs.Outcomes.{Told, told}
+use Rattle.outcomes.specs.Asking.{Reply, reached, played, tallied}
+use Rattle.rules.specs.declared.Point.{Point}
+use Rattle.rules.specs.Rules.{point, answerFinite, iterationsIn}
+use Rattle.rules.specs.Iterations.{progress}
+use Rattle.hagerzhang.specs.declared.Stage.{Stage}
+use Rattle.hagerzhang.specs.declared.Stage.the-variants.{Open, Over}
+use Rattle.hagerzhang.specs.declared.Search.{Search}
+use Rattle.hagerzhang.specs.Machine.{dueIn, answerOf}
+use Rattle.hagerzhang.specs.Meaning.{report, dueTold}
+
+-- one answer
+abbrev pub next : Search → Float → Float → Search
+next s f g = answerOf s f g .search
+
+abbrev pub says : Search → Float → Float → Told
+says s f g = told (answerOf s f g .outcome)
+
+-- any answers: the state then, all that was told on the way, and what is told at one more
+abbrev pub reachedBy : Search → List Reply → Search
+reachedBy s ys = reached next s ys
+
+abbrev pub toldBy : Search → List Reply → List Told
+toldBy s ys = played next says s ys
+
+abbrev pub toldAt : Search → List Reply → Reply → Told
+toldAt s ys y = says (reachedBy s ys) (y .0) (y .1)
+
+abbrev pub one-more : List Reply → Reply → List Reply
+one-more ys y = ys ++ (y ∷ [])
+
+abbrev pub isOver : Stage → Bool
+isOver (Open waiting) = false
+isOver (Over kept) = true
+
+abbrev pub isAsking : Search → Bool
+isAsking s = not (isOver (s .stage))
+
+-- "the finite answers accepted", and those that were given while it asked and were not finite
+abbrev pub finiteBy : Search → List Reply → ℕ
+finiteBy s ys = tallied next isAsking answerFinite s ys
+
+abbrev pub notFiniteBy : Search → List Reply → ℕ
+notFiniteBy s ys = tallied next isAsking (λ f g. not (answerFinite f g)) s ys
+
+-- the points asked in the start or the iteration under way, with their answers, newest first: an answer that brings the
+-- report further finishes it, and the next begins with nothing asked
+abbrev pub note : Option Float → Reply → List Point → List Point
+note (some x) y asked = point x (y .0) (y .1) ∷ asked
+note none y asked = asked
+
+abbrev pub noteBy : Search → Reply → List Point → List Point
+noteBy s y asked = note (dueTold (dueIn s)) y asked
+
+unfoldable pub askedFrom : List Point → Search → List Reply → List Point
+askedFrom asked s [] = asked
+askedFrom asked s (y ∷ ys) =
+    let s' = next s (y .0) (y .1) in
+    askedFrom (cond (ltb (progress (report s)) (progress (report s'))) [] (noteBy s y asked)) s' ys
+
+abbrev pub askedBy : Search → List Reply → List Point
+askedBy s ys = askedFrom [] s ys
+
+-- and with the answer that may finish it
+abbrev pub askedAt : Search → List Reply → Reply → List Point
+askedAt s ys y = noteBy (reachedBy s ys) y (askedBy s ys)
+
+-- how many of the answers finish an iteration: then one more is reported
+unfoldable pub finishedBy : Search → List Reply → ℕ
+finishedBy s [] = 0
+finishedBy s (y ∷ ys) =
+    let s' = next s (y .0) (y .1) in
+    cond (ltb (iterationsIn (report s)) (iterationsIn (report s'))) 1 0 + finishedBy s' ys
