@@ -84,7 +84,8 @@ pub(crate) fn backtracks(body: &[u8]) -> Told {
     }
 }
 
-// An answer. Where the start was refused there is nobody else to refuse it; where there is no case the field is malformed, and never comes here.
+// An answer. Where the start was refused there is nobody else to refuse it; where there is no case the field is
+// malformed, and never comes here.
 pub(crate) fn answered(seat: Seat, y: Reply) -> Told {
     match seat {
         Seat::Free => refused(Refusal::AlreadyOver),
