@@ -1,4 +1,5 @@
-// Reads cases from standard input, a search or a vector each, and shows what becomes of them. The crates case_fields and case_bodies say how a case is written.
+// Reads cases from standard input, a search or a vector each, and shows what becomes of them. The crates case_fields
+// and case_bodies say how a case is written.
 
 mod input;
 mod on_vectors;
@@ -29,7 +30,8 @@ fn room(out: &mut [u8], at: usize) -> usize {
 
 // ---- a field
 
-// What the fields so far have come to: who sits at the desk, how many cases there were, the place of the next line, and whether a field was malformed.
+// What the fields so far have come to: who sits at the desk, how many cases there were, the place of the next line, and
+// whether a field was malformed.
 struct Desk {
     seat: Seat,
     cases: u64,
@@ -98,8 +100,9 @@ fn served(out: &mut [u8], s: &[u8], desk: Desk, b: u64) -> Desk {
 
 // ---- the run
 
-// The buffer begins with byte b of the input; the next field is at from, and there is input up to to. While the input goes on, a field is served
-// only where it is surely whole. A proved loop has to end, and nothing says that an input does: it counts its turns down.
+// The buffer begins with byte b of the input; the next field is at from, and there is input up to to. While the input
+// goes on, a field is served only where it is surely whole. A proved loop has to end, and nothing says that an input
+// does: it counts its turns down.
 fn run(buf: &mut [u8], out: &mut [u8]) {
     let mut desk = free(0, 0, false);
     let mut b: u64 = 0;

@@ -46,13 +46,13 @@ fn refused(r: Refusal) -> Told {
 fn from_hager_zhang(step: hagerzhang::Step) -> Told {
     let outcome = step.outcome;
     let s = step.search;
-    let stage = s.stage;
     let evaluations = s.evaluations;
+    let kept = hagerzhang::held(s);
     Told {
         seat: Seat::HagerZhang(s),
         outcome,
         evaluations,
-        iterations: closing_lines::iterations(stage),
+        iterations: kept.iterations(),
     }
 }
 
@@ -84,7 +84,8 @@ pub(crate) fn backtracks(body: &[u8]) -> Told {
     }
 }
 
-// An answer. Where the start was refused there is nobody else to refuse it; where there is no case the field is malformed, and never comes here.
+// An answer. Where the start was refused there is nobody else to refuse it; where there is no case the field is
+// malformed, and never comes here.
 pub(crate) fn answered(seat: Seat, y: Reply) -> Told {
     match seat {
         Seat::Free => refused(Refusal::AlreadyOver),
@@ -99,10 +100,7 @@ pub(crate) fn closed(out: &mut [u8], at: usize, seat: Seat) -> usize {
     match seat {
         Seat::Free => at,
         Seat::NoSearch => closing_lines::none(out, at, Evaluations(0), Iterations(0)),
-        Seat::HagerZhang(s) => {
-            let stage = s.stage;
-            closing_lines::closing(out, at, stage, s.evaluations)
-        }
+        Seat::HagerZhang(s) => closing_lines::closing(out, at, s),
         Seat::Backtracks(s) => closing_lines::none(out, at, s.evaluations, s.iterations),
     }
 }

@@ -2,39 +2,12 @@
 
 use hagerzhang::Finished;
 use hagerzhang::Kept;
-use hagerzhang::Stage;
-use hagerzhang::Waiting;
+use hagerzhang::Search;
 use outcomes::Evaluations;
 use outcomes::Iterations;
-ghost use mathlib.Core.Path.{_≡_};
 ghost use Rattle.text.specs.Text.{Writes};
-ghost use Rattle.closing_lines.specs.Closing.{heldBy, iterationsOf, noneText, finishedText, closingText};
-
-fn held(stage: Stage) -> Kept
-    ensures { λ r. ⌜ r ≡ heldBy stage ⌝ }
-{
-    match stage {
-        Stage::Open(w) => match w {
-            Waiting::Low => Kept::NoneYet,
-            Waiting::High(_) => Kept::NoneYet,
-            Waiting::Start(_) => Kept::NoneYet,
-            Waiting::Running(last, _, _) => Kept::Last(last),
-        },
-        Stage::Over(k) => k,
-    }
-}
-
-// The iterations that a search at this stage has finished.
-pub fn iterations(stage: Stage) -> Iterations
-    ensures { λ r. ⌜ r ≡ iterationsOf (heldBy stage) ⌝ }
-{
-    match held(stage) {
-        Kept::NoneYet => Iterations(0),
-        Kept::Last(f) => f.iterations,
-    }
-}
-
-// ---- the lines
+ghost use Rattle.hagerzhang.specs.Meaning.{lastOf, report};
+ghost use Rattle.closing_lines.specs.Closing.{noneText, closingText};
 
 // Neither bracket nor best.
 pub fn none(out: &mut [u8], at: usize, e: Evaluations, i: Iterations) -> usize
@@ -45,7 +18,7 @@ pub fn none(out: &mut [u8], at: usize, e: Evaluations, i: Iterations) -> usize
 }
 
 fn finished(out: &mut [u8], at: usize, f: Finished, e: Evaluations) -> usize
-    ensures { λ r. ⌜ Writes (now (out .entry)) at (finishedText f (e .0)) (now (out .exit)) r ⌝ }
+    ensures { λ r. ⌜ Writes (now (out .entry)) at (closingText (lastOf f) (e .0)) (now (out .exit)) r ⌝ }
 {
     let a = f.bracket.a;
     let b = f.bracket.b;
@@ -56,12 +29,12 @@ fn finished(out: &mut [u8], at: usize, f: Finished, e: Evaluations) -> usize
     figures::counts(out, r, e, f.iterations)
 }
 
-// Of a search at this stage.
-pub fn closing(out: &mut [u8], at: usize, stage: Stage, e: Evaluations) -> usize
-    ensures { λ r. ⌜ Writes (now (out .entry)) at (closingText (heldBy stage) (e .0)) (now (out .exit)) r ⌝ }
+// What this search holds.
+pub fn closing(out: &mut [u8], at: usize, s: Search) -> usize
+    ensures { λ r. ⌜ Writes (now (out .entry)) at (closingText (report s) (s .evaluations .0)) (now (out .exit)) r ⌝ }
 {
-    match held(stage) {
-        Kept::NoneYet => none(out, at, e, Iterations(0)),
-        Kept::Last(f) => finished(out, at, f, e),
+    match hagerzhang::held(s) {
+        Kept::NoneYet => none(out, at, s.evaluations, Iterations(0)),
+        Kept::Last(f) => finished(out, at, f, s.evaluations),
     }
 }

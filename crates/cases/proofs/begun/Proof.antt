@@ -11,9 +11,16 @@ begun-spec =
     (tie.spec
     (λ c κs. search needs) (λ c. search needs) (λ c κs. search needs) (λ c κs. search needs) (λ c. search needs)
     (λ c κs. search needs) (λ c κs. search needs) (λ c. search needs)
-    (λ c κs. let m = c .before .before in subst Short (m .field .given .1) (m .before .before .before .before .before .before .before .before .pre))
+    (λ c κs.
+    let m = c .before .before in
+    let start = m .before .before .before .before .before .before .before .before in
+    subst Short (m .field .given .1) (start .pre))
     (λ c κs. search needs) (λ c. search needs)
-    (λ c κs. let m = c .before .before in subst Short (m .field2 .given .1) (m .before .before .before .before .before .before .before .before .pre))
-    (λ c κs. search needs) (λ c. search needs) (λ c κs. search needs) (λ c. search needs) (λ c κs. search needs) (λ c. search needs)
-    (λ c. search needs) (λ c. search needs) (λ c. search needs) (λ c. search needs) (λ c. search needs) (λ c. search needs)
-    (λ c. search needs) (λ c. search needs) (λ c. search needs) (λ c. search needs) (λ c. search needs))
+    (λ c κs.
+    let m = c .before .before in
+    let start = m .before .before .before .before .before .before .before .before in
+    subst Short (m .field2 .given .1) (start .pre))
+    (λ c κs. search needs) (λ c. search needs) (λ c κs. search needs) (λ c. search needs) (λ c κs. search needs)
+    (λ c. search needs) (λ c. search needs) (λ c. search needs) (λ c. search needs) (λ c. search needs)
+    (λ c. search needs) (λ c. search needs) (λ c. search needs) (λ c. search needs) (λ c. search needs)
+    (λ c. search needs) (λ c. search needs))

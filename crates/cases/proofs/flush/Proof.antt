@@ -7,4 +7,7 @@ use Rattle.cases.proofs.flush.Tie as tie
 
 pub flush-spec : {M : Type 1} → statement M
 flush-spec =
-    tie.close (tie.spec (λ c. sym (length-take-le _ _ (c .before .if1 .taken))) (λ c κs. search needs) (λ c. search needs) (λ c. search needs))
+    tie.close
+    (tie.spec
+    (λ c. sym (length-take-le _ _ (c .before .if1 .taken))) (λ c κs. search needs) (λ c. search needs)
+    (λ c. search needs))

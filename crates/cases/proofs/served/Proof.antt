@@ -8,8 +8,13 @@ use Rattle.cases.proofs.served.Tie as tie
 
 pub served-spec : {M : Type 1} → statement M
 served-spec =
-    tie.close (tie.spec (λ c κs. search needs) (λ c κs. search needs) (λ c κs. search needs) (λ c. search needs) (λ c κs. search needs)
-    (λ c κs. search needs) (λ c κs. search needs) (λ c. search needs) (λ c. search needs) (λ c κs. search needs) (λ c. search needs)
-    (λ c κs. search needs) (λ c κs. search needs) (λ c. search needs) (λ c. search needs) (λ c κs. search needs)
-    (λ c κs. subst Short (sym (c .before .before .before .before .before .before .before .before .read .ensures)) (read-short _ _))
+    tie.close
+    (tie.spec
+    (λ c κs. search needs) (λ c κs. search needs) (λ c κs. search needs) (λ c. search needs)
+    (λ c κs. search needs) (λ c κs. search needs) (λ c κs. search needs) (λ c. search needs) (λ c. search needs)
+    (λ c κs. search needs) (λ c. search needs) (λ c κs. search needs) (λ c κs. search needs) (λ c. search needs)
+    (λ c. search needs) (λ c κs. search needs)
+    (λ c κs.
+    let read = c .before .before .before .before .before .before .before .before .read in
+    subst Short (sym (read .ensures)) (read-short _ _))
     (λ c. search needs) (λ c. search needs))

@@ -8,6 +8,8 @@ use Rattle.cases.proofs.on_vectors.dot_line.Tie as tie
 
 pub dot-line-spec : {M : Type 1} → statement M
 dot-line-spec =
-    tie.close (tie.spec (λ c. sym (length-take-le _ _ (omega arith))) (λ c. sym (length-take-le _ _ (omega arith))) (λ c κs. search needs)
-    (λ c. search needs) (λ c κs. search needs) (λ c. search needs) (λ c κs. search needs) (λ c κs. search needs) (λ c. search needs)
-    (λ c. search needs) (λ c. search needs) (λ c. search needs))
+    tie.close
+    (tie.spec
+    (λ c. sym (length-take-le _ _ (omega arith))) (λ c. sym (length-take-le _ _ (omega arith)))
+    (λ c κs. search needs) (λ c. search needs) (λ c κs. search needs) (λ c. search needs) (λ c κs. search needs)
+    (λ c κs. search needs) (λ c. search needs) (λ c. search needs) (λ c. search needs) (λ c. search needs))

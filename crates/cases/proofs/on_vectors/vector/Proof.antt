@@ -8,5 +8,7 @@ use Rattle.cases.proofs.on_vectors.vector.Tie as tie
 
 pub vector-spec : {M : Type 1} → statement M
 vector-spec =
-    tie.close (tie.spec (λ c. search needs) (λ c. sym (length-take-le _ _ (omega arith))) (λ c κs. search needs) (λ c. search needs)
+    tie.close
+    (tie.spec
+    (λ c. search needs) (λ c. sym (length-take-le _ _ (omega arith))) (λ c κs. search needs) (λ c. search needs)
     (λ c. search needs))
