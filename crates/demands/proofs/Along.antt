@@ -27,11 +27,11 @@ use Rattle.hagerzhang.specs.declared.Stage.{Stage}
 use Rattle.hagerzhang.specs.declared.Stage.the-variants.{Open, Over}
 use Rattle.hagerzhang.specs.declared.Search.{Search}
 use Rattle.hagerzhang.specs.Machine.{dueIn, takenOf, answerBy, answerOf, fresh}
-use Rattle.hagerzhang.specs.Meaning.{report, dueTold, meaning, meant}
+use Rattle.hagerzhang.specs.Meaning.{report, isOver, dueTold, meaning, meant}
 use Rattle.hagerzhang.proofs.Bridge.{follows, starts-whole}
 use Rattle.hagerzhang.proofs.Answering.{setup-kept, one-more-if-finite, reports, awaited}
 use Rattle.demands.specs.Runs.{
-  next, says, reachedBy, toldBy, toldAt, one-more, isOver, isAsking, note, noteBy, askedFrom, askedBy, askedAt, finishedBy
+  next, says, reachedBy, toldBy, toldAt, one-more, isAsking, note, noteBy, askedFrom, askedBy, askedAt, finishedBy
 }
 
 -- ---- lists

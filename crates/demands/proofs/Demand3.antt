@@ -28,8 +28,8 @@ use Rattle.rules.proofs.Demand3 as rules
 use Rattle.hagerzhang.specs.declared.Search.{Search}
 use Rattle.hagerzhang.specs.declared.Step.{Step}
 use Rattle.hagerzhang.specs.Machine.{fresh, startOf}
-use Rattle.hagerzhang.specs.Meaning.{report}
-use Rattle.demands.specs.Runs.{reachedBy, toldAt, one-more, isOver, finiteBy, notFiniteBy, askedBy, askedAt, finishedBy}
+use Rattle.hagerzhang.specs.Meaning.{report, isOver}
+use Rattle.demands.specs.Runs.{reachedBy, toldAt, one-more, finiteBy, notFiniteBy, askedBy, askedAt, finishedBy}
 use Rattle.demands.specs.Demand3.{AtLimit, Demand3}
 use Rattle.demands.proofs.Along.{
   after-one-more, report-at, report-next, over-at, told-at, asked-by, asked-at, finished-at, tallied-is, evaluations-are

@@ -16,9 +16,9 @@ use Rattle.rules.specs.Rules.{point, Last, Report, last, iterationsIn}
 use Rattle.rules.specs.Iterations.{Premise, Bracketed, Within, Finished, Moves}
 use Rattle.hagerzhang.specs.declared.Search.{Search}
 use Rattle.hagerzhang.specs.declared.Step.{Step}
-use Rattle.hagerzhang.specs.Meaning.{report}
+use Rattle.hagerzhang.specs.Meaning.{report, isOver}
 use Rattle.demands.specs.Runs.{
-  reachedBy, toldAt, one-more, isOver, finiteBy, notFiniteBy, askedBy, askedAt, finishedBy
+  reachedBy, toldAt, one-more, finiteBy, notFiniteBy, askedBy, askedAt, finishedBy
 }
 
 -- a search ended at its n-th iteration, with the best step x

@@ -1,7 +1,7 @@
 -- A Hager-Zhang search of the machine, along any answers: the state that is reached, what is told, what was asked in the
 -- iteration under way, and what is counted. `answerOf` is what `answer` gives, by its contract.
 use Prim.Native.Nat.{ℕ, _+_}
-use mathlib.Core.Bool.{Bool, true, false, cond, not}
+use mathlib.Core.Bool.{Bool, cond, not}
 use mathlib.Core.List.{List, [], _∷_, _++_}
 use mathlib.Core.Option.{Option, some, none}
 use lib.Dec.{ltb}
@@ -11,11 +11,9 @@ use Rattle.outcomes.specs.Asking.{Reply, reached, played, tallied}
 use Rattle.rules.specs.declared.Point.{Point}
 use Rattle.rules.specs.Rules.{point, answerFinite, iterationsIn}
 use Rattle.rules.specs.Iterations.{progress}
-use Rattle.hagerzhang.specs.declared.Stage.{Stage}
-use Rattle.hagerzhang.specs.declared.Stage.the-variants.{Open, Over}
 use Rattle.hagerzhang.specs.declared.Search.{Search}
 use Rattle.hagerzhang.specs.Machine.{dueIn, answerOf}
-use Rattle.hagerzhang.specs.Meaning.{report, dueTold}
+use Rattle.hagerzhang.specs.Meaning.{report, isOver, dueTold}
 
 -- one answer
 abbrev pub next : Search → Float → Float → Search
@@ -36,10 +34,6 @@ toldAt s ys y = says (reachedBy s ys) (y .0) (y .1)
 
 abbrev pub one-more : List Reply → Reply → List Reply
 one-more ys y = ys ++ (y ∷ [])
-
-abbrev pub isOver : Stage → Bool
-isOver (Open waiting) = false
-isOver (Over kept) = true
 
 abbrev pub isAsking : Search → Bool
 isAsking s = not (isOver (s .stage))

@@ -1,22 +1,46 @@
 -- What any answer to any state leaves and counts: the setup stays, a finite answer to a search that asks is one more evaluation, and what a state holds is what the rules
 -- that it stands for report. Assumes nothing.
 use mathlib.Core.Path.{_≡_, refl, sym, ap, _∙_}
-use mathlib.Core.Bool.{cond}
+use mathlib.Core.Bool.{cond, _&&_}
+use Prim.Native.Nat.{ℕ}
+use lib.Dec.{eqb}
 use lib.Ieee.{Float}
+use lib.Ieee.Scale.{finite}
+use Rattle.floats.specs.Arithmetic.{_<ᶠ_}
+use Rattle.outcomes.specs.Outcomes.{asks, told}
+use Rattle.outcomes.specs.Refusals.{refusalIn}
+use Rattle.outcomes.specs.declared.Outcome.{Outcome}
+use Rattle.outcomes.specs.declared.Outcome.the-variants.{Ask}
+use Rattle.outcomes.proofs.Apart.{asks-not-ends}
 use Rattle.outcomes.specs.Asking.{reported, awaits}
 use Rattle.outcomes.specs.Counters.{counted}
 use Rattle.outcomes.proofs.Branches.{either, by-test}
 use Rattle.rules.specs.declared.Setup.{Setup}
-use Rattle.rules.specs.Rules.{answerFinite}
+use Rattle.rules.specs.declared.Point.{Point}
+use Rattle.rules.specs.declared.Bracket.{Bracket}
+use Rattle.rules.specs.Rules.{answerFinite, middleOf}
+use Rattle.rules.proofs.StaysBracket.{if-so}
+use Rattle.hagerzhang.specs.declared.Finished.{Finished}
+use Rattle.hagerzhang.specs.declared.Trial.{Trial}
+use Rattle.hagerzhang.specs.declared.Ends.{Ends}
+use Rattle.hagerzhang.specs.declared.Move.{Move}
+use Rattle.hagerzhang.specs.declared.Move.the-variants.{Try, Narrow, Stop as ByVerdict, Limit as ByLimit}
+use Rattle.hagerzhang.specs.declared.moves.Tested.{Tested}
+use Rattle.hagerzhang.specs.declared.moves.Tested.the-variants.{Try as Asks, Narrow as Narrows, End as Stops}
+use Rattle.hagerzhang.specs.declared.Then.{Then}
+use Rattle.hagerzhang.specs.declared.Then.the-variants.{Go, Close}
 use Rattle.hagerzhang.specs.declared.Kept.{Kept}
 use Rattle.hagerzhang.specs.declared.Due.{Due}
 use Rattle.hagerzhang.specs.declared.Waiting.{Waiting}
+use Rattle.hagerzhang.specs.declared.Waiting.the-variants.{Low, High, Start, Running}
 use Rattle.hagerzhang.specs.declared.Stage.{Stage}
 use Rattle.hagerzhang.specs.declared.Stage.the-variants.{Open, Over}
 use Rattle.hagerzhang.specs.declared.Search.{Search}
 use Rattle.hagerzhang.specs.declared.Step.{Step}
-use Rattle.hagerzhang.specs.Machine.{keptAt, keptIn, dueAt, dueIn, takenOf, answerBy}
-use Rattle.hagerzhang.specs.Meaning.{keptReport, dueTold, meaning, meant}
+use Rattle.hagerzhang.specs.Machine.{
+  attemptOf, probeOf, testedOf, madeBy, madeOf, wentOf, reactOf, keptAt, keptIn, dueAt, dueIn, takenOf, answerBy
+}
+use Rattle.hagerzhang.specs.Meaning.{keptReport, dueTold, OfTheStep, not-refused, six, five, seven, meaning, meant}
 
 pub setup-kept : (b : Search) (f g : Float) (stage : Stage) → answerBy b f g stage .search .setup ≡ b .setup
 unfolding answerBy takenOf
@@ -46,3 +70,52 @@ held-promised s r e = (e, ap keptReport e ∙ sym (reports (s .setup) (s .stage)
 
 pub awaited-promised : (s : Search) (r : Due) → r ≡ dueIn s → (r ≡ dueIn s) × (dueTold r ≡ awaits (meant s))
 awaited-promised s r e = (e, ap dueTold e ∙ sym (awaited (s .setup) (s .stage)))
+
+-- ---- what a finite answer to any state can come to
+-- what is told is an ask exactly while the search is not over
+pub data Said : Stage → Outcome → Type 0 where
+  goes-on : {waiting : Waiting} {x : Float} → Said (Open waiting) (Ask x)
+  ended : {kept : Kept} {o : Outcome} → OfTheStep (refusalIn (told o)) → ((x : Float) → told o ≡ asks x → ⊥) → Said (Over kept) o
+
+data Fine : Tested → Type 0 where
+  tries : {u : Bracket} {t : Trial} → Fine (Asks u t)
+  narrows : {t : Trial} {e : Ends} → Fine (Narrows t e)
+  stops : {o : Outcome} → OfTheStep (refusalIn (told o)) → ((x : Float) → told o ≡ asks x → ⊥) → Fine (Stops o)
+
+-- the machine's cases are private to it
+made-so : (fin : Finished) {m : Tested} → Fine m → let n = madeBy fin m in Said (n .stage) (n .outcome)
+unfolding madeBy
+made-so fin tries = goes-on
+made-so fin narrows = goes-on
+made-so fin (stops a b) = ended a b
+
+probe-fine : (theta : Float) (t : Trial) (h : Point) (k : Float) (left : ℕ) → Fine (probeOf theta t h k left)
+unfolding probeOf
+probe-fine theta t h k left =
+    let d = middleOf theta h k in
+    if-so Fine (eqb left 0) (λ e. stops six (λ x q. asks-not-ends x _ q))
+    (λ e. if-so Fine (finite d)
+    (λ e. if-so Fine (h .x <ᶠ d && d <ᶠ k) (λ e. narrows) (λ e. stops seven (λ x q. asks-not-ends x _ q)))
+    (λ e. stops five (λ x q. asks-not-ends x _ q)))
+
+tested-fine : (theta best : Float) (m : Move) → Fine (testedOf theta best m)
+unfolding testedOf attemptOf
+tested-fine theta best (Try u t) = if-so Fine (finite (t .x)) (λ e. tries) (λ e. stops five (λ x q. asks-not-ends x _ q))
+tested-fine theta best (Narrow t h k left) = probe-fine theta t h k left
+tested-fine theta best (ByVerdict v) = stops not-refused (λ x q. asks-not-ends x _ q)
+tested-fine theta best ByLimit = stops not-refused (λ x q. asks-not-ends x _ q)
+
+made-said : (theta : Float) (fin : Finished) (m : Move) → let n = madeOf theta fin m in Said (n .stage) (n .outcome)
+made-said theta fin m = made-so fin (tested-fine theta (fin .best .x) m)
+
+went-said : (s : Setup) (fin : Finished) (t : Then) → let n = wentOf s fin t in Said (n .stage) (n .outcome)
+unfolding wentOf
+went-said s fin (Go m) = made-said (s .options .params .theta) fin m
+went-said s fin (Close u) = made-said (s .options .params .theta) _ _
+
+pub react-said : (s : Setup) (waiting : Waiting) (f g : Float) → let n = reactOf s waiting f g in Said (n .stage) (n .outcome)
+unfolding reactOf
+react-said s Low f g = goes-on
+react-said s (High a) f g = goes-on
+react-said s (Start w) f g = made-said (s .options .params .theta) _ _
+react-said s (Running fin t asked) f g = went-said s fin _

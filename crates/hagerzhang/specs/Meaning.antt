@@ -1,6 +1,7 @@
 -- What a state stands for in 01's rules: the search that is left. And what `start` and `answer` promise in the rules' terms.
-use Prim.Native.Nat.{_-_}
+use Prim.Native.Nat.{ℕ, _-_}
 use mathlib.Core.Path.{_≡_}
+use mathlib.Core.Bool.{Bool, true, false}
 use lib.Ieee.{Float}
 use mathlib.Core.Option.{Option, some, none}
 use Rattle.numbers.specs.Results.{Result, value, refused, refuse_else_}
@@ -60,10 +61,21 @@ keptReport (Last fin) = lastOf fin
 abbrev pub report : Search → Report
 report s = keptReport (keptIn s)
 
+abbrev pub isOver : Stage → Bool
+isOver (Open waiting) = false
+isOver (Over kept) = true
+
 -- the step at which an answer is awaited
 abbrev pub dueTold : Due → Option Float
 dueTold (StepAt x) = some x
 dueTold NoStep = none
+
+-- no refusal, or one of the step that would be next
+pub data OfTheStep : Option ℕ → Type 0 where
+  not-refused : OfTheStep none
+  six : OfTheStep (some 6)
+  five : OfTheStep (some 5)
+  seven : OfTheStep (some 7)
 
 -- ---- the search that is left
 

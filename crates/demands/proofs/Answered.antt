@@ -1,0 +1,79 @@
+-- 01's table of refusals for Hager-Zhang, of any state: an answer is refused by 8 and by 2 exactly when their rows say so, and
+-- else by 6, 5 or 7 at most; and what that leaves (`answered`). Assumes nothing.
+use mathlib.Core.Path.{_≡_, refl, sym, ap, _∙_}
+use mathlib.Core.Bool.{Bool, true, false, cond, not, true≢false, false≢true}
+use mathlib.Core.Option.{Option, none, some, Option·none-ne-some, Option·some-injective}
+use Prim.Native.Nat.{ℕ}
+use lib.Ieee.{Float}
+use Rattle.outcomes.specs.Outcomes.{asks, told}
+use Rattle.outcomes.specs.Refusals.{given, refusalIn}
+use Rattle.outcomes.specs.Counters.{counted, evaluations}
+use Rattle.outcomes.proofs.Apart.{asks-not-ends}
+use Rattle.outcomes.specs.declared.Outcome.{Outcome}
+use Rattle.outcomes.specs.declared.Outcome.the-variants.{Refused}
+use Rattle.outcomes.specs.declared.Refusal.the-variants.{SuppliedNotFinite}
+use Rattle.rules.specs.Rules.{answerFinite}
+use Rattle.hagerzhang.specs.declared.Waiting.{Waiting}
+use Rattle.hagerzhang.specs.declared.Stage.{Stage}
+use Rattle.hagerzhang.specs.declared.Stage.the-variants.{Open, Over}
+use Rattle.hagerzhang.specs.declared.Search.{Search}
+use Rattle.hagerzhang.specs.declared.Step.{Step}
+use Rattle.hagerzhang.specs.Machine.{ending, keptOf, keptAt, reactOf, stepTo, takenOf, answerBy, AnswerSaid}
+use Rattle.hagerzhang.specs.Meaning.{keptReport, isOver, OfTheStep, not-refused}
+use Rattle.hagerzhang.proofs.Answering.{Said, goes-on as asks-on, ended, react-said}
+use Rattle.demands.specs.Demand1.{earlyRows, Answered}
+
+-- ---- a finite answer: what it says of the stage that it leaves
+of-step : {stage : Stage} {o : Outcome} → Said stage o → OfTheStep (refusalIn (told o))
+of-step asks-on = not-refused
+of-step (ended a b) = a
+
+then-over : {stage : Stage} {o : Outcome} → Said stage o → (n : ℕ) → refusalIn (told o) ≡ some n → isOver stage ≡ true
+then-over asks-on n e = absurd (Option·none-ne-some n e)
+then-over (ended a b) n e = refl
+
+then-open : {stage : Stage} {o : Outcome} → Said stage o → (x : Float) → told o ≡ asks x → isOver stage ≡ false
+then-open asks-on x e = refl
+then-open (ended a b) x e = absurd (b x e)
+
+module _ (s : Search) (f g : Float) where
+  taken : (waiting : Waiting) → s .stage ≡ Open waiting → (b : Bool) → answerFinite f g ≡ b
+      → Answered s f g (cond b (stepTo (s .setup) (evaluations (counted (s .evaluations .0))) (reactOf (s .setup) waiting f g))
+      (stepTo (s .setup) (s .evaluations) (ending (keptOf waiting) (Refused SuppliedNotFinite))))
+  unfolding given keptAt
+  taken waiting w true e =
+      let m = react-said (s .setup) waiting f g in
+      record {
+        early = λ n q. absurd (Option·none-ne-some n (sym (rw (w, e)) ∙ q));
+        otherwise = λ q. of-step m;
+        unchanged = λ q. absurd (false≢true (sym (ap isOver w) ∙ q));
+        over = then-over m;
+        goes-on = then-open m;
+        keeps = λ q a. absurd (true≢false (sym e ∙ a));
+        counts = rw (w, e);
+      }
+  taken waiting w false e = record {
+    early = λ n q. sym (rw (w, e)) ∙ q;
+    otherwise = λ q. absurd (Option·none-ne-some 2 (sym q ∙ rw (w, e)));
+    unchanged = λ q. absurd (false≢true (sym (ap isOver w) ∙ q));
+    over = λ n q. refl;
+    goes-on = λ x q. absurd (asks-not-ends x _ q);
+    keeps = λ q a. rw w;
+    counts = rw (w, e);
+  }
+
+  by-stage : (stage : Stage) → s .stage ≡ stage → Answered s f g (answerBy s f g stage)
+  unfolding answerBy takenOf given
+  by-stage (Open waiting) w = taken waiting w (answerFinite f g) refl
+  by-stage (Over kept) w = record {
+    early = λ n q. sym (rw w) ∙ q;
+    otherwise = λ q. absurd (Option·none-ne-some 8 (sym q ∙ rw w));
+    unchanged = λ q. refl;
+    over = λ n q. rw w;
+    goes-on = λ x q. absurd (asks-not-ends x _ q);
+    keeps = λ q a. refl;
+    counts = rw w;
+  }
+
+pub answered : (s : Search) (f g : Float) (r : Step) → AnswerSaid s f g r → Answered s f g r
+answered s f g r e = rw e (by-stage s f g (s .stage) refl)
