@@ -33,6 +33,7 @@ pub record Begins (bytes : List ℕ) (c : Curve) (t : Step) : Type 0 where
   pub is-job : jobOf bytes ≡ value job
   pub same-curve : curveOf job ≡ c
   pub same-step : fresh (setupFor job) ≡ t
+  pub passes : Passed (jobRows job)
   pub accepted : Passed (startRows (job .options) (f0Of job) (s0Of job))
   pub started : startOf (job .options) (f0Of job) (s0Of job) ≡ value t
 
@@ -47,6 +48,7 @@ module _ (bytes : List ℕ) (c : Curve) (t : Step) where
         is-job = is;
         same-curve = ap (λ (q : Curve × Step). q .0) (p .1);
         same-step = step;
+        passes = p .0;
         accepted = ok;
         started = rw (← step) (value-given (startRows (j .options) (f0Of j) (s0Of j)) (fresh (setupFor j)) ok);
       }
