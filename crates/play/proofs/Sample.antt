@@ -1,5 +1,6 @@
--- 01's sample job: "Job `01 0001 01 02 0010 0000000000000000 4010000000000000` gives exactly" 01's four lines (`sample`).
--- Worked out in parts: what its bytes say, that no row refuses it, what its search tells, and the lines. Assumes nothing.
+-- 01's sample job: "Job `01 0001 01 02 0010 0000000000000000 4010000000000000` gives exactly" 01's four lines
+-- (`sample`). Worked out in parts: what its bytes say, that no row refuses it, what its search tells, and the lines.
+-- Assumes nothing.
 use mathlib.Core.Path.{_≡_, refl, ap, ap₂, _∙_}
 use mathlib.Core.Bool.{true}
 use mathlib.Core.List.{List, [], _∷_, _++_, append-nil}
