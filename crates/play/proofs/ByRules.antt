@@ -53,6 +53,7 @@ text-append [] l = refl
 text-append (s ∷ k) l =
     ap (λ (t : List ℕ). saidLine s ++ t) (text-append k l) ∙ sym (append-assoc (saidLine s) (textOf k) (textOf l))
 
+-- what is needed of a setup; one that a start accepts has it (`start-fits`, Output.antt)
 pub record Fits (s : Setup) : Type 0 where
   pub limit : s .options .limit < 4294967296
   pub level : isNan (s .level) ≡ false
@@ -120,13 +121,12 @@ module _ (s : Setup) (fits : Fits s) (c : Curve) where
           let z = follows (t .search) (still-fits .limit) (still-fits .level) f g t' refl in
           let h = at .few in
           let n = at .counts in
+          let counted = counts-on (t .search) f g (t .search .stage) k x then is-run (omega arith) in
           record {
             same-setup = setup-kept (t .search) f g (t .search .stage) ∙ at .same-setup;
             tells = z .tells ∙ ap shown responds;
             leaves = z .leaves ∙ ap onceTold responds;
-            counts =
-                counts-on (t .search) f g (t .search .stage) k x then is-run (omega arith) ∙ ap
-                (λ (i : ℕ). i + cond (answerFinite f g) 1 0) n;
+            counts = counted ∙ ap (λ (i : ℕ). i + cond (answerFinite f g) 1 0) n;
             within = more f g;
             few = at-most-one (answerFinite f g);
           }
@@ -197,8 +197,7 @@ module _ (s : Setup) (fits : Fits s) (c : Curve) where
       let more = plays n (nextOf c t) (z .others) (z .matches) in
       record {
         others = more .others;
-        split = z .first ∙ ap (λ (a : List Said). saidOf t ∷ a)
-            (more .split);
+        split = z .first ∙ ap (λ (a : List Said). saidOf t ∷ a) (more .split);
         matches = more .matches;
       }
 

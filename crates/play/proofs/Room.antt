@@ -58,8 +58,8 @@ few-said (suc n) c (On t) = let h = few-said n c (nextOf c t) in omega arith
 
 -- ---- a text for which there is room is written whole
 written : (held : List ℕ) (at : ℕ) (t : List ℕ) → at + length t ≤ length held
-    → (write (page held at) t .at ≡ at + length t) ×
-    (take (at + length t) (write (page held at) t .held) ≡ take at held ++ t)
+    → (write (page held at) t .at ≡ at + length t)
+    × (take (at + length t) (write (page held at) t .held) ≡ take at held ++ t)
 unfolding write
 written held at [] room =
     let z : at + 0 ≡ at = omega arith in
@@ -70,8 +70,10 @@ written held at (b ∷ t) room =
     let first : take (at + 1) (set held at b) ≡ take at held ++ (b ∷ []) =
     rw add-one (take-suc-set held at b (omega arith)) in
     let same : put (page held at) b ≡ page (set held at b) (at + 1) = rw (lt-ltb at (length held) (omega arith)) in
-    subst (λ (q : Page). (write q t .at ≡ at + suc (length t)) ×
-    (take (at + suc (length t)) (write q t .held) ≡ take at held ++ b ∷ t)) (sym same)
+    subst
+    (λ (q : Page). (write q t .at ≡ at + suc (length t))
+    × (take (at + suc (length t)) (write q t .held) ≡ take at held ++ b ∷ t))
+    (sym same)
     (rw n (more .0, more .1 ∙ ap (λ (l : List ℕ). l ++ t) first ∙ append-snoc (take at held) b t))
 
 -- what is written from the front of the program's buffer is the text of these turns, with nothing cut off

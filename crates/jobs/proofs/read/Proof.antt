@@ -67,7 +67,5 @@ returns-3 c =
 pub read-spec : {M : Type 1} → statement M
 read-spec =
     tie.close (tie.spec (λ c κs. search needs) returns next-requires (λ c κs. search needs) (λ c κs. search needs)
-    (λ c κs. search needs)
-    (λ c κs. search needs) returns-2 (λ c. search needs) (λ c. search needs) part-byte-end (λ c κs. search needs)
-    (λ c. search needs) options-requires
-    returns-3)
+    (λ c κs. search needs) (λ c κs. search needs) returns-2 (λ c. search needs) (λ c. search needs) part-byte-end
+    (λ c κs. search needs) (λ c. search needs) options-requires returns-3)

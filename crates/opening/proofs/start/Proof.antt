@@ -21,8 +21,8 @@ returns-2 : tie.Need-returns-2
 returns-2 c =
     let j = c .before .before .before .before .before .before .before .before .args .j in
     let n = c .before .before .before .before in
-    c .search-over .ensures ∙ found-curve j (fine (n .before)) _
-    (ap curveTold (sym (c .before .before .c .given .1)) ∙ n .numbered .ensures)
+    let known = ap curveTold (sym (c .before .before .c .given .1)) ∙ n .numbered .ensures in
+    c .search-over .ensures ∙ found-curve j (fine (n .before)) _ known
 
 returns-3 : tie.Need-returns-3
 returns-3 c =
@@ -33,5 +33,4 @@ returns-3 c =
 pub start-spec : {M : Type 1} → statement M
 start-spec =
     tie.close (tie.spec (λ c κs. search needs) returns (λ c κs. search needs) (λ c. search needs) (λ c κs. search needs)
-    (λ c. search needs) returns-2
-    returns-3)
+    (λ c. search needs) returns-2 returns-3)

@@ -11,8 +11,8 @@ use Rattle.play.proofs.play.Tie as tie
 
 abbrev Inv-loop : tie.InvT-loop
 Inv-loop c turns out₀ at played₀ next₀ left₀ out played next left =
-    (length out ≡ length out₀) × (leftAfter left c played ≡ leftAfter turns c played₀) ×
-    (ahead c left played (page out next) ≡ ahead c turns played₀ (page out₀ at))
+    (length out ≡ length out₀) × (leftAfter left c played ≡ leftAfter turns c played₀)
+    × (ahead c left played (page out next) ≡ ahead c turns played₀ (page out₀ at))
 
 abbrev μ-loop : tie.MeasureT-loop
 μ-loop c turns out₀ at played₀ next₀ left₀ out played next left = left
@@ -48,6 +48,5 @@ returns-2 c =
 pub play-spec : {M : Type 1} → statement M
 play-spec =
     tie.close (tie.spec Inv-loop μ-loop (λ c. (refl, refl, refl)) (λ c. search needs) (λ c. search needs)
-    (λ c. search needs) returns
-    (λ c κs. search needs) (λ c κs. search needs) (λ c. search needs) (λ c. search needs) loop-again
-    (λ c. search needs) returns-2)
+    (λ c. search needs) returns (λ c κs. search needs) (λ c κs. search needs) (λ c. search needs) (λ c. search needs)
+    loop-again (λ c. search needs) returns-2)
