@@ -1,5 +1,6 @@
--- The reader reads 01's format, no less and no more: bytes that hold fields in 01's form are read as what these say (`format-is-read`), and whatever is read as a job is
--- such bytes (`read-is-format`); any others are refused by 9 (`refused-otherwise`). The longest job has 55 bytes (`longest`). Assumes nothing.
+-- The reader reads 01's format, no less and no more. Bytes that hold fields in 01's form which say a job are read as it
+-- (`job-read`); whatever is read as a job is such bytes (`read-is-format`); and any others are refused by 9
+-- (`no-job-refused`). The longest job has 55 bytes (`longest`). Assumes nothing.
 use mathlib.Core.Path.{_≡_, refl, sym, ap, ap₂, _∙_, subst}
 use mathlib.Core.Bool.{Bool, true, false, cond, _&&_}
 use mathlib.Core.List.{List, [], _∷_, _++_}
@@ -27,7 +28,8 @@ module _ (f : Field) (s : List ℕ) where
   begins-written =
       let n = length (f .body) in
       let l : 3 + n ≤ length (written f ++ s) = simp length-append (omega arith) in
-      rw (le-leb (3 + n) (length (written f ++ s)) l, eq-eqb (f .tag) (f .tag) refl, eq-eqb (n / 256 * 256 + n % 256) n (div-add-mod' n 256))
+      let same : eqb (n / 256 * 256 + n % 256) n ≡ true = eq-eqb (n / 256 * 256 + n % 256) n (div-add-mod' n 256) in
+      rw (le-leb (3 + n) (length (written f ++ s)) l, eq-eqb (f .tag) (f .tag) refl, same)
 
   body-written : found (f .tag) (length (f .body)) (written f ++ s) ≡ some (f .body)
   unfolding found
@@ -50,12 +52,14 @@ module _ (f : Field) (s : List ℕ) where
 absent : {t : ℕ} {fs : List Field} {s : List ℕ} → Holds t fs s → (m : ℕ) → m ≤ t → bodyOf m fs ≡ none
 unfolding bodyOf
 absent nothing m h = refl
-absent (field {f = f} above known more) m h = rw (ne-eqb (f .tag) m (λ (e : f .tag ≡ m). omega arith)) (absent more m (omega arith))
+absent (field {f = f} above known more) m h =
+    rw (ne-eqb (f .tag) m (λ (e : f .tag ≡ m). omega arith)) (absent more m (omega arith))
 
 same-size : (m k n l : ℕ) → m ≡ k → sizeOf m ≡ some l → sizeOf k ≡ some n → l ≡ n
 same-size m k n l e p q = cc
 
--- ---- one tag after the other: what the reader finds at the tag k is what the fields hold, and what is behind it holds the others
+-- ---- one tag after the other: what the reader finds at the tag k is what the fields hold, and what is behind it holds
+-- the others
 record Passed (k n : ℕ) (fs : List Field) (s : List ℕ) : Type 0 where
   others : List Field
   holds : Holds k others (behind k n s)
@@ -74,14 +78,17 @@ module _ (t k n : ℕ) (next : k ≡ suc t) (known : sizeOf k ≡ some n) where
       let e : leb (3 + n) 0 ≡ false = lt-leb (3 + n) 0 (omega arith) in
       record { others = []; holds = rw e nothing; body = rw e; same = λ m h. refl }
 
-  module _ (f : Field) (fs : List Field) (s : List ℕ) (above : t < f .tag) (size : sizeOf (f .tag) ≡ some (length (f .body))) (more : Holds (f .tag) fs s) where
+  module _ (f : Field) (fs : List Field) (s : List ℕ) (above : t < f .tag)
+      (size : sizeOf (f .tag) ≡ some (length (f .body))) (more : Holds (f .tag) fs s) where
     this-tag : eqb (f .tag) k ≡ true → Passed k n (f ∷ fs) (written f ++ s)
     unfolding bodyOf
     this-tag e =
         let p : f .tag ≡ k = eqb-true (f .tag) k e in
         let q : length (f .body) ≡ n = same-size (f .tag) k n (length (f .body)) p size known in
-        let b : behind k n (written f ++ s) ≡ s = ap₂ (λ (i j : ℕ). behind i j (written f ++ s)) (sym p) (sym q) ∙ behind-written f s in
-        let w : found k n (written f ++ s) ≡ some (f .body) = ap₂ (λ (i j : ℕ). found i j (written f ++ s)) (sym p) (sym q) ∙ body-written f s in
+        let b : behind k n (written f ++ s) ≡ s =
+        ap₂ (λ (i j : ℕ). behind i j (written f ++ s)) (sym p) (sym q) ∙ behind-written f s in
+        let w : found k n (written f ++ s) ≡ some (f .body) =
+        ap₂ (λ (i j : ℕ). found i j (written f ++ s)) (sym p) (sym q) ∙ body-written f s in
         record {
           others = fs;
           holds = rw b (subst (λ (i : ℕ). Holds i fs s) p more);
@@ -113,15 +120,24 @@ module _ (t k n : ℕ) (next : k ≡ suc t) (known : sizeOf k ≡ some n) where
   -- the same, for bytes that hold what is left of some fields
   step : (all : List Field) (s : List ℕ) → Left t all s → (found k n s ≡ bodyOf k all) × Left k all (behind k n s)
   step all s a =
-      let p = passed (a .fields) s (a .holds) in
-      (p .body ∙ a .same k (omega arith), record { fields = p .others; holds = p .holds; same = λ m l. p .same m l ∙ a .same m (omega arith) })
+      let p = passed (a .fields) s (a .holds) in (
+        p .body ∙ a .same k (omega arith),
+        record { fields = p .others; holds = p .holds; same = λ m l. p .same m l ∙ a .same m (omega arith) },
+      )
 
 -- there is no tag above 6
 unknown : (tag n : ℕ) → 6 < tag → sizeOf tag ≡ some n → ⊥
 unfolding sizeOf
 unknown tag n h e =
     let far : (k : ℕ) → k ≤ 6 → eqb tag k ≡ false = λ k l. ne-eqb tag k (λ (g : tag ≡ k). omega arith) in
-    let z : none ≡ some n = rw (far 1 (omega arith), far 2 (omega arith), far 3 (omega arith), far 4 (omega arith), far 5 (omega arith), far 6 (omega arith)) at e in
+    let z : none ≡ some n = rw (
+      far 1 (omega arith),
+      far 2 (omega arith),
+      far 3 (omega arith),
+      far 4 (omega arith),
+      far 5 (omega arith),
+      far 6 (omega arith),
+    ) at e in
     let o : _≡_ {A = ℕ} 0 1 = cc in
     omega arith
 
@@ -168,7 +184,8 @@ begun k n s h =
       size = eqb-true (pairOf (drop 1 s)) n (and-second (l && t) p h);
     }
 
-split : (k n : ℕ) (s : List ℕ) → n < 256 → n / 256 ≡ 0 → n % 256 ≡ n → Begun k n s → s ≡ written (record { tag = k; body = take n (drop 3 s) }) ++ drop (3 + n) s
+split : (k n : ℕ) (s : List ℕ) → n < 256 → n / 256 ≡ 0 → n % 256 ≡ n → Begun k n s
+    → s ≡ written (record { tag = k; body = take n (drop 3 s) }) ++ drop (3 + n) s
 split k n [] small hi lo h = absurd (let l = h .long in omega arith)
 split k n (a ∷ []) small hi lo h = absurd (let l = h .long in omega arith)
 split k n (a ∷ b ∷ []) small hi lo h = absurd (let l = h .long in omega arith)
@@ -184,7 +201,8 @@ split k n (a ∷ b ∷ c ∷ s) small hi lo h =
 abbrev first : ℕ → ℕ → List ℕ → Field
 first k n s = record { tag = k; body = take n (drop 3 s) }
 
-back : (t k n : ℕ) → t < k → sizeOf k ≡ some n → n < 256 → n / 256 ≡ 0 → n % 256 ≡ n → (s : List ℕ) → Formed k (behind k n s) → Formed t s
+back : (t k n : ℕ) → t < k → sizeOf k ≡ some n → n < 256 → n / 256 ≡ 0 → n % 256 ≡ n → (s : List ℕ)
+    → Formed k (behind k n s) → Formed t s
 unfolding behind
 back t k n above known small hi lo s m = by-test (begins k n s) refl
   where
@@ -195,8 +213,12 @@ back t k n above known small hi lo s m = by-test (begins k n s) refl
         let len : length (take n (drop 3 s)) ≡ n = length-take-le n (drop 3 s) (simp length-drop (omega arith)) in
         let size : sizeOf k ≡ some (length (take n (drop 3 s))) = known ∙ ap some (sym len) in
         let rest : Holds k (m .fields) (drop (3 + n) s) = rw e at (m .holds) in
-        let whole : Holds t (first k n s ∷ m .fields) (written (first k n s) ++ drop (3 + n) s) = field above size rest in
-        record { fields = first k n s ∷ m .fields; holds = subst (λ (l : List ℕ). Holds t (first k n s ∷ m .fields) l) (sym (split k n s small hi lo g)) whole }
+        let whole : Holds t (first k n s ∷ m .fields) (written (first k n s) ++ drop (3 + n) s) =
+        field above size rest in
+        record {
+          fields = first k n s ∷ m .fields;
+          holds = subst (λ (l : List ℕ). Holds t (first k n s ∷ m .fields) l) (sym (split k n s small hi lo g)) whole;
+        }
     by-test false e = record { fields = m .fields; holds = weaker t (omega arith) (rw e at (m .holds)) }
 
 at-the-end : (s : List ℕ) → length s ≡ 0 → Formed 6 s
@@ -239,6 +261,12 @@ not-refused false a j e = let z : _≡_ {A = ℕ} 0 1 = cc in absurd (omega arit
 nothing-left : (s : List ℕ) (j : Job) → jobOf s ≡ value j → length (left s) ≡ 0
 nothing-left s j e = eqb-true (length (left s)) 0 (not-refused (eqb (length (left s)) 0) (whole s) j e)
 
+-- ---- 01's row 9, "the job is malformed", by the format: a job is what the fields say that the bytes hold
+
+-- bytes that hold such fields are read as it
+pub job-read : (s : List ℕ) (fs : List Field) (j : Job) → Holds 0 fs s → meansOf fs ≡ value j → jobOf s ≡ value j
+job-read s fs j h means = format-is-read fs s h ∙ means
+
 -- whatever is read as a job is such bytes
 pub read-is-format : (s : List ℕ) (j : Job) → jobOf s ≡ value j → Encodes s j
 read-is-format s j e =
@@ -246,7 +274,8 @@ read-is-format s j e =
     record { fields = f .fields; holds = f .holds; means = sym (format-is-read (f .fields) s (f .holds)) ∙ e }
 
 -- and any others are refused by 9
-value-or-nine : (b : Bool) (body : Option (List ℕ)) (o : Options) → ((j : Job) → cond b (decoded body o) (refused 9) ≡ value j → ⊥) → cond b (decoded body o) (refused 9) ≡ refused 9
+value-or-nine : (b : Bool) (body : Option (List ℕ)) (o : Options)
+    → ((j : Job) → cond b (decoded body o) (refused 9) ≡ value j → ⊥) → cond b (decoded body o) (refused 9) ≡ refused 9
 unfolding decoded
 value-or-nine true (some body) o never = absurd (never _ refl)
 value-or-nine true none o never = refl
@@ -254,9 +283,16 @@ value-or-nine false body o never = refl
 
 pub refused-otherwise : (s : List ℕ) → ((j : Job) → Encodes s j → ⊥) → jobOf s ≡ refused 9
 refused-otherwise s never =
-    value-or-nine (eqb (length (left s)) 0) (found 1 1 s) _ (λ (j : Job) (e : jobOf s ≡ value j). never j (read-is-format s j e))
+    value-or-nine (eqb (length (left s)) 0) (found 1 1 s) _
+    (λ (j : Job) (e : jobOf s ≡ value j). never j (read-is-format s j e))
 
--- ---- "1 curve (1 byte, required), 2 bounds (16), 3 start step (8), 4 epsilon (8), 5 B (2), 6 N (2)", each behind three bytes: at most 55
+-- the same, of the fields themselves: "wrong length, unknown tag, cut field or missing tag 1 is refusal 9"
+pub no-job-refused : (s : List ℕ) → ((fs : List Field) (j : Job) → Holds 0 fs s → meansOf fs ≡ value j → ⊥)
+    → jobOf s ≡ refused 9
+no-job-refused s never = refused-otherwise s (λ j e. never (e .fields) j (e .holds) (e .means))
+
+-- ---- "1 curve (1 byte, required), 2 bounds (16), 3 start step (8), 4 epsilon (8), 5 B (2), 6 N (2)", each behind
+-- three bytes: at most 55
 shortens : (k n : ℕ) (s : List ℕ) → length s ≤ 3 + n + length (behind k n s)
 unfolding behind
 shortens k n s = by-test (begins k n s)
@@ -272,4 +308,13 @@ longest s1 j e =
     let s4 = behind 3 8 s3 in
     let s5 = behind 4 8 s4 in
     let s6 = behind 5 2 s5 in
-    omega (arith, nothing-left s1 j e, shortens 1 1 s1, shortens 2 16 s2, shortens 3 8 s3, shortens 4 8 s4, shortens 5 2 s5, shortens 6 2 s6)
+    omega (
+      arith,
+      nothing-left s1 j e,
+      shortens 1 1 s1,
+      shortens 2 16 s2,
+      shortens 3 8 s3,
+      shortens 4 8 s4,
+      shortens 5 2 s5,
+      shortens 6 2 s6,
+    )

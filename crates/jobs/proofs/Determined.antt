@@ -1,11 +1,13 @@
--- Any two answers that the contract of `read` allows are identical. Assumes nothing.
-use mathlib.Core.Path.{_≡_, refl}
+-- Any two results that `read`'s contract allows are identical (01, "How tight the contracts are"). Assumes nothing.
+use mathlib.Core.Path.{_≡_, refl, sym, _∙_}
+use mathlib.Core.List.{List}
+use Prim.Native.Nat.{ℕ}
 use Rattle.numbers.specs.Results.{Result, value, refused}
 use Rattle.numbers.proofs.Determined.{determined}
 use Rattle.jobs.specs.declared.Job.{Job}
 use Rattle.jobs.specs.declared.Reading.{Reading}
 use Rattle.jobs.specs.declared.Reading.the-variants.{Whole, Malformed}
-use Rattle.jobs.specs.Reader.{readTold}
+use Rattle.jobs.specs.Reader.{readTold, ReadSaid}
 
 reading : Result Job → Reading
 reading (value j) = Whole j
@@ -16,5 +18,5 @@ unfolding reading
 reading-back (Whole j) = refl
 reading-back Malformed = refl
 
-pub read-determined : (r q : Reading) → readTold r ≡ readTold q → r ≡ q
-read-determined = determined readTold reading reading-back
+pub read-determined : (bytes : List ℕ) (r q : Reading) → ReadSaid bytes r → ReadSaid bytes q → r ≡ q
+read-determined bytes r q said said' = determined readTold reading reading-back r q (said ∙ sym said')

@@ -18,7 +18,8 @@ either-way : (b : Bool) (a : Result Job) → a ≡ cond b a a
 either-way true a = refl
 either-way false a = refl
 
-has-curve : (s : List ℕ) (curve : ℕ) (o options : Options) → begins 1 1 s ≡ true → curve ≡ byteAt (take 1 (drop 3 s)) 0 → o ≡ options
+has-curve : (s : List ℕ) (curve : ℕ) (o options : Options) → begins 1 1 s ≡ true → curve ≡ byteAt (take 1 (drop 3 s)) 0
+    → o ≡ options
     → value (record { curve = curve; options = o }) ≡ decoded (found 1 1 s) options
 unfolding found decoded
 has-curve s curve o options h c e = rw (h, c, e)
@@ -50,13 +51,31 @@ module _ (s : List ℕ) (start epsilon budget limit end : ℕ) (p : Places s sta
   left-over h =
       let l : length (drop end s) ≡ length s - end = length-drop end s in
       let within = p .within in
-      let e : eqb (length (drop end s)) 0 ≡ false = ne-eqb (length (drop end s)) 0 (λ (z : length (drop end s) ≡ 0). h (omega arith)) in
-      rw (← behind-curve, ← p .behind-bounds, ← p .behind-start, ← p .behind-epsilon, ← p .behind-budget, ← p .behind-limit, e)
+      let e : eqb (length (drop end s)) 0 ≡ false =
+      ne-eqb (length (drop end s)) 0 (λ (z : length (drop end s) ≡ 0). h (omega arith)) in
+      rw (
+        ← behind-curve,
+        ← p .behind-bounds,
+        ← p .behind-start,
+        ← p .behind-epsilon,
+        ← p .behind-budget,
+        ← p .behind-limit,
+        e,
+      )
 
   -- nothing is left
   pub whole : end ≡ length s → (curve : ℕ) (options : Options) → curve ≡ byteAt (take 1 (drop 3 s)) 0
-      → options ≡ optionsAt s 4 start epsilon budget limit → value (record { curve = curve; options = options }) ≡ jobOf s
+      → options ≡ optionsAt s 4 start epsilon budget limit
+      → value (record { curve = curve; options = options }) ≡ jobOf s
   whole h curve options c o =
       let l : length (drop end s) ≡ length s - end = length-drop end s in
       let e : eqb (length (drop end s)) 0 ≡ true = eq-eqb (length (drop end s)) 0 (omega arith) in
-      rw (← behind-curve, ← p .behind-bounds, ← p .behind-start, ← p .behind-epsilon, ← p .behind-budget, ← p .behind-limit, e) (has-curve s curve options _ (p .curve) c o)
+      rw (
+        ← behind-curve,
+        ← p .behind-bounds,
+        ← p .behind-start,
+        ← p .behind-epsilon,
+        ← p .behind-budget,
+        ← p .behind-limit,
+        e,
+      ) (has-curve s curve options _ (p .curve) c o)

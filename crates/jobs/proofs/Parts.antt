@@ -11,7 +11,7 @@ use borrow.Author.Tests.{le-leb, lt-leb, leb-true}
 use Rattle.outcomes.proofs.Branches.{and-first}
 use lib.Ieee.{Float}
 use Rattle.wire.specs.Wire.{pairOf, floatOf}
-use Rattle.jobs.specs.Format.{said}
+use Rattle.jobs.specs.Format.{floatIn, said}
 use Rattle.jobs.specs.Reader.{begins, found, behind}
 
 -- two bytes of a part say what the two bytes there say
@@ -26,12 +26,15 @@ drop-take (suc k) m (x ∷ l) =
     let e : suc k + m ≡ suc (k + m) = omega arith in
     rw e (drop-take k m l)
 
-body-part : (s : List ℕ) (at n skip : ℕ) → skip ≤ n → take (at + 3 + n - (at + 3 + skip)) (drop (at + 3 + skip) s) ≡ drop skip (take n (drop 3 (drop at s)))
+body-part : (s : List ℕ) (at n skip : ℕ) → skip ≤ n
+    → take (at + 3 + n - (at + 3 + skip)) (drop (at + 3 + skip) s) ≡ drop skip (take n (drop 3 (drop at s)))
 body-part s at n skip l =
     let m : at + 3 + n - (at + 3 + skip) ≡ n - skip = omega arith in
     let e : n ≡ skip + (n - skip) = omega arith in
-    let d : drop (at + 3 + skip) s ≡ drop skip (drop 3 (drop at s)) = sym (ap (drop skip) (drop-drop 3 at s) ∙ drop-drop skip (at + 3) s) in
-    rw (m, d) (sym (drop-take skip (n - skip) (drop 3 (drop at s))) ∙ ap (λ (i : ℕ). drop skip (take i (drop 3 (drop at s)))) (sym e))
+    let d : drop (at + 3 + skip) s ≡ drop skip (drop 3 (drop at s)) =
+    sym (ap (drop skip) (drop-drop 3 at s) ∙ drop-drop skip (at + 3) s) in
+    let body = drop 3 (drop at s) in
+    rw (m, d) (sym (drop-take skip (n - skip) body) ∙ ap (λ (i : ℕ). drop skip (take i body)) (sym e))
 
 module _ (s : List ℕ) (at tag n : ℕ) where
   -- where fewer bytes than a field's are left there is none
@@ -40,12 +43,14 @@ module _ (s : List ℕ) (at tag n : ℕ) where
   cut-short h = rw (lt-leb (3 + n) (length (drop at s)) (simp length-drop (omega arith)))
 
   -- otherwise its tag and its length decide
-  pub by-head : (m : ℕ) → 2 ≤ m → 3 + n ≤ length s - at → (eqb (getD s at 0) tag && eqb (pairOf (take m (drop (at + 1) s))) n) ≡ begins tag n (drop at s)
+  pub by-head : (m : ℕ) → 2 ≤ m → 3 + n ≤ length s - at
+      → (eqb (getD s at 0) tag && eqb (pairOf (take m (drop (at + 1) s))) n) ≡ begins tag n (drop at s)
   unfolding begins
   by-head m two h =
       let z : getD (drop at s) 0 0 ≡ getD s at 0 = getD-drop at s 0 0 ∙ ap (λ (i : ℕ). getD s i 0) (omega arith) in
       let d : drop 1 (drop at s) ≡ drop (at + 1) s = drop-drop 1 at s in
-      rw (le-leb (3 + n) (length (drop at s)) (simp length-drop (omega arith)), z, d, pair-of-part (drop (at + 1) s) m two)
+      let long = le-leb (3 + n) (length (drop at s)) (simp length-drop (omega arith)) in
+      rw (long, z, d, pair-of-part (drop (at + 1) s) m two)
 
   -- a field that is there lies within the job
   pub within : at ≤ length s → begins tag n (drop at s) ≡ true → at + 3 + n ≤ length s
@@ -67,28 +72,34 @@ module _ (s : List ℕ) (at tag n : ℕ) where
 
   -- the float that starts some bytes into the body is what the part of the job says
   pub float-there : (skip : ℕ) (other : Float) → skip ≤ n → begins tag n (drop at s) ≡ true
-      → floatOf (take (at + 3 + n - (at + 3 + skip)) (drop (at + 3 + skip) s)) ≡ said (λ body. floatOf (drop skip body)) (found tag n (drop at s)) other
+      → floatOf (take (at + 3 + n - (at + 3 + skip)) (drop (at + 3 + skip) s))
+      ≡ said (floatIn skip) (found tag n (drop at s)) other
   unfolding found
   float-there skip other l h = rw h (ap floatOf (body-part s at n skip l))
 
-  pub float-absent : (skip : ℕ) (other : Float) → begins tag n (drop at s) ≡ false → other ≡ said (λ body. floatOf (drop skip body)) (found tag n (drop at s)) other
+  pub float-absent : (skip : ℕ) (other : Float) → begins tag n (drop at s) ≡ false
+      → other ≡ said (floatIn skip) (found tag n (drop at s)) other
   unfolding found
   float-absent skip other h = rw h
 
   -- so is the number
-  pub count-there : (other : ℕ) → begins tag n (drop at s) ≡ true → pairOf (take (at + 3 + n - (at + 3)) (drop (at + 3) s)) ≡ said pairOf (found tag n (drop at s)) other
+  pub count-there : (other : ℕ) → begins tag n (drop at s) ≡ true
+      → pairOf (take (at + 3 + n - (at + 3)) (drop (at + 3) s)) ≡ said pairOf (found tag n (drop at s)) other
   unfolding found
   count-there other h =
       let z : at + 3 + 0 ≡ at + 3 = omega arith in
       rw h (ap pairOf (rw z at (body-part s at n 0 (omega arith))))
 
-  pub count-absent : (other : ℕ) → begins tag n (drop at s) ≡ false → other ≡ said pairOf (found tag n (drop at s)) other
+  pub count-absent : (other : ℕ) → begins tag n (drop at s) ≡ false
+      → other ≡ said pairOf (found tag n (drop at s)) other
   unfolding found
   count-absent other h = rw h
 
 -- what two bytes say fits
 pub pair-fits : (s : List ℕ) (a m : ℕ) → 2 ≤ m → ((i : ℕ) → getD s i 0 < 256) → pairOf (take m (drop a s)) < 65536
 pair-fits s a m two small =
-    let x : getD (take m (drop a s)) 0 0 ≡ getD s (a + 0) 0 = getD-take m (drop a s) 0 0 (omega arith) ∙ getD-drop a s 0 0 in
-    let y : getD (take m (drop a s)) 1 0 ≡ getD s (a + 1) 0 = getD-take m (drop a s) 1 0 (omega arith) ∙ getD-drop a s 1 0 in
+    let x : getD (take m (drop a s)) 0 0 ≡ getD s (a + 0) 0 =
+    getD-take m (drop a s) 0 0 (omega arith) ∙ getD-drop a s 0 0 in
+    let y : getD (take m (drop a s)) 1 0 ≡ getD s (a + 1) 0 =
+    getD-take m (drop a s) 1 0 (omega arith) ∙ getD-drop a s 1 0 in
     omega (arith, small (a + 0), small (a + 1))

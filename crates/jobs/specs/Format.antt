@@ -6,6 +6,7 @@ use mathlib.Core.List.{List, [], _∷_, _++_}
 use mathlib.Core.Option.{Option, some, none}
 use lib.Dec.{eqb}
 use lib.ListN.{length, drop}
+use lib.Ieee.{Float}
 use Rattle.numbers.specs.Results.{Result, value, refused}
 use Rattle.wire.specs.Wire.{byteAt, pairOf, floatOf}
 use Rattle.rules.specs.declared.Options.{Options}
@@ -20,7 +21,8 @@ pub record Field : Type 0 where
 abbrev pub written : Field → List ℕ
 written f = f .tag ∷ length (f .body) / 256 ∷ length (f .body) % 256 ∷ f .body
 
--- "Tags: 1 curve (1 byte, required), 2 bounds (16), 3 start step (8), 4 epsilon (8), 5 B (2), 6 N (2)": how long the body of each is
+-- "Tags: 1 curve (1 byte, required), 2 bounds (16), 3 start step (8), 4 epsilon (8), 5 B (2), 6 N (2)": how long the
+-- body of each is
 unfoldable pub sizeOf : ℕ → Option ℕ
 sizeOf tag =
     cond (eqb tag 1) (some 1)
@@ -31,10 +33,12 @@ sizeOf tag =
     (cond (eqb tag 6) (some 2)
     none)))))
 
--- "Tags ascend strictly; wrong length, unknown tag, cut field .. is refusal 9": the bytes are these whole fields, with tags above t
+-- "Tags ascend strictly; wrong length, unknown tag, cut field .. is refusal 9": the bytes are these whole fields, with
+-- tags above t
 pub data Holds : ℕ → List Field → List ℕ → Type 0 where
   nothing : {t : ℕ} → Holds t [] []
-  field : {t : ℕ} {f : Field} {fs : List Field} {s : List ℕ} → t < f .tag → sizeOf (f .tag) ≡ some (length (f .body)) → Holds (f .tag) fs s → Holds t (f ∷ fs) (written f ++ s)
+  field : {t : ℕ} {f : Field} {fs : List Field} {s : List ℕ} → t < f .tag → sizeOf (f .tag) ≡ some (length (f .body))
+      → Holds (f .tag) fs s → Holds t (f ∷ fs) (written f ++ s)
 
 -- the body of the field with a tag, where there is one
 unfoldable pub bodyOf : ℕ → List Field → Option (List ℕ)
@@ -46,8 +50,13 @@ abbrev pub said : {A : Type 0} → (List ℕ → A) → Option (List ℕ) → A 
 said says none other = other
 said says (some body) other = says body
 
+-- the float that starts so many bytes into a body
+abbrev pub floatIn : ℕ → List ℕ → Float
+floatIn skip body = floatOf (drop skip body)
+
 -- what the bodies of the tags 2 to 6 say; what is absent has its default
-unfoldable pub optionsOf : Option (List ℕ) → Option (List ℕ) → Option (List ℕ) → Option (List ℕ) → Option (List ℕ) → Options
+unfoldable pub optionsOf : Option (List ℕ) → Option (List ℕ) → Option (List ℕ) → Option (List ℕ) → Option (List ℕ)
+    → Options
 optionsOf bounds start epsilon budget limit = record {
   params = record {
     delta = defaultOptions .params .delta;
@@ -57,7 +66,7 @@ optionsOf bounds start epsilon budget limit = record {
     gamma = defaultOptions .params .gamma;
     eta = defaultOptions .params .eta;
     min = said floatOf bounds (defaultOptions .params .min);
-    max = said (λ body. floatOf (drop 8 body)) bounds (defaultOptions .params .max);
+    max = said (floatIn 8) bounds (defaultOptions .params .max);
     start = said floatOf start (defaultOptions .params .start);
   };
   budget = said pairOf budget (defaultOptions .budget);

@@ -1,12 +1,13 @@
--- How a job is read, for any bytes at all: in the order of the tags each field is there or not, and nothing may be left. That this reads 01's format, no
--- less and no more, is proved in proofs/BothWays.antt.
+-- How a job is read, for any bytes at all: in the order of the tags each field is there or not, and nothing may be
+-- left. That this reads 01's format, no less and no more, is proved in proofs/BothWays.antt.
 use Prim.Native.Nat.{ℕ, _+_}
+use mathlib.Core.Path.{_≡_}
 use mathlib.Core.Bool.{Bool, cond, _&&_}
 use mathlib.Core.List.{List}
 use mathlib.Core.Option.{Option, some, none}
 use lib.Dec.{leb, eqb}
 use lib.ListN.{length, take, drop}
-use Rattle.numbers.specs.Results.{Result, value, refused, unless_refuse_else_}
+use Rattle.numbers.specs.Results.{Result, value, refused}
 use Rattle.rules.specs.declared.Options.{Options}
 use Rattle.wire.specs.Wire.{byteAt, pairOf}
 use Rattle.jobs.specs.declared.Job.{Job}
@@ -28,8 +29,14 @@ behind tag n s = cond (begins tag n s) (drop (3 + n) s) s
 -- what the fields 2 to 6 say, each looked for at its place
 abbrev pub optionsAt : List ℕ → ℕ → ℕ → ℕ → ℕ → ℕ → Options
 optionsAt s bounds start epsilon budget limit =
-    optionsOf (found 2 16 (drop bounds s)) (found 3 8 (drop start s)) (found 4 8 (drop epsilon s)) (found 5 2 (drop budget s)) (found 6 2 (drop limit s))
+    optionsOf
+    (found 2 16 (drop bounds s))
+    (found 3 8 (drop start s))
+    (found 4 8 (drop epsilon s))
+    (found 5 2 (drop budget s))
+    (found 6 2 (drop limit s))
 
+-- 9: "the job is malformed", where something is left, or the curve is missing
 abbrev pub jobOf : List ℕ → Result Job
 jobOf s1 =
     let s2 = behind 1 1 s1 in
@@ -37,10 +44,15 @@ jobOf s1 =
     let s4 = behind 3 8 s3 in
     let s5 = behind 4 8 s4 in
     let s6 = behind 5 2 s5 in
-    unless (eqb (length (behind 6 2 s6)) 0) refuse 9 else
-    decoded (found 1 1 s1) (optionsOf (found 2 16 s2) (found 3 8 s3) (found 4 8 s4) (found 5 2 s5) (found 6 2 s6))
+    cond (eqb (length (behind 6 2 s6)) 0)
+    (decoded (found 1 1 s1) (optionsOf (found 2 16 s2) (found 3 8 s3) (found 4 8 s4) (found 5 2 s5) (found 6 2 s6)))
+    (refused 9)
 
 -- what each case of the answer tells
 abbrev pub readTold : Reading → Result Job
 readTold (Whole j) = value j
 readTold Malformed = refused 9
+
+-- what `read`'s contract says of a result r, for any bytes
+abbrev pub ReadSaid : List ℕ → Reading → Type 0
+ReadSaid bytes r = readTold r ≡ jobOf bytes

@@ -5,9 +5,9 @@ use rules::Params;
 ghost use mathlib.Core.Path.{_≡_};
 ghost use Prim.Native.Nat.{_≤_};
 ghost use lib.ListN.{length, drop};
-ghost use Rattle.wire.specs.Wire.{pairOf, floatOf};
-ghost use Rattle.jobs.specs.Format.{said};
-ghost use Rattle.jobs.specs.Reader.{begins, found, behind, optionsAt, jobOf, readTold};
+ghost use Rattle.wire.specs.Wire.{pairOf};
+ghost use Rattle.jobs.specs.Format.{floatIn, said};
+ghost use Rattle.jobs.specs.Reader.{begins, found, behind, optionsAt, ReadSaid};
 
 pub struct Job {
     // the curve's number, as the job has it
@@ -52,7 +52,7 @@ fn next(job: &[u8], p: Place) -> usize
 // The float that starts `skip` bytes into the field's body, or the other where the field is absent.
 fn number(job: &[u8], p: Place, skip: usize, other: f64) -> f64
     requires { ⌜ (p .0 ≤ length (now job)) × (p .2 ≤ 16) × (skip ≤ p .2) ⌝ }
-    ensures { λ r. ⌜ r ≡ said (λ body. floatOf (drop skip body)) (found (p .1) (p .2) (drop (p .0) (now (job .entry)))) other ⌝ }
+    ensures { λ r. ⌜ r ≡ said (floatIn skip) (found (p .1) (p .2) (drop (p .0) (now (job .entry)))) other ⌝ }
 {
     if stands(job, p) {
         let a = p.0 + 3 + skip;
@@ -84,7 +84,8 @@ fn options(
     budget: usize,
     limit: usize,
 ) -> Options
-    requires { ⌜ (bounds ≤ length (now job)) × (start ≤ length (now job)) × (epsilon ≤ length (now job)) × (budget ≤ length (now job)) × (limit ≤ length (now job)) ⌝ }
+    requires { ⌜ (bounds ≤ length (now job)) × (start ≤ length (now job)) × (epsilon ≤ length (now job))
+        × (budget ≤ length (now job)) × (limit ≤ length (now job)) ⌝ }
     ensures { λ r. ⌜ r ≡ optionsAt (now (job .entry)) bounds start epsilon budget limit ⌝ }
 {
     let d = parameters::defaults();
@@ -114,7 +115,7 @@ fn options(
 
 // The job, for any bytes: in the order of the tags each field is there or not, and nothing may be left.
 pub fn read(job: &[u8]) -> Reading
-    ensures { λ r. ⌜ readTold r ≡ jobOf (now (job .entry)) ⌝ }
+    ensures { λ r. ⌜ ReadSaid (now (job .entry)) r ⌝ }
 {
     if !stands(job, Place(0, 1, 1)) {
         return Reading::Malformed;

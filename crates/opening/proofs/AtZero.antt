@@ -10,9 +10,9 @@ use lib.Ieee.Scale.{finite}
 use borrow.Author.Tests.{leb-true}
 use Rattle.outcomes.proofs.Branches.{and-first, and-second}
 use Rattle.floats.specs.Arithmetic.{0ᶠ}
-use Rattle.curves.specs.Curves.{table, curveAt, valueOf, slopeOf}
+use Rattle.curves.specs.Curves.{table, curveAt, hasNumber, valueOf, slopeOf}
 use Rattle.jobs.specs.declared.Job.{Job}
-use Rattle.opening.specs.Start.{hasCurve, f0Of, s0Of}
+use Rattle.opening.specs.Start.{f0Of, s0Of}
 
 first : ℕ → (ℕ → Bool) → Bool
 first zero test = true
@@ -22,7 +22,8 @@ each : (n : ℕ) (test : ℕ → Bool) → first n test ≡ true → (i : ℕ) �
 unfolding first
 each zero test h i l = absurd (not-suc-le-zero l)
 each (suc n) test h zero l = and-first (test 0) (first n (λ i. test (suc i))) h
-each (suc n) test h (suc i) l = each n (λ i. test (suc i)) (and-second (test 0) (first n (λ i. test (suc i))) h) i (le-of-suc-le-suc l)
+each (suc n) test h (suc i) l =
+    each n (λ i. test (suc i)) (and-second (test 0) (first n (λ i. test (suc i))) h) i (le-of-suc-le-suc l)
 
 finite-at-zero : ℕ → Bool
 finite-at-zero i = finite (valueOf (curveAt (i * 5)) 0ᶠ) && finite (slopeOf (curveAt (i * 5)) 0ᶠ)
@@ -31,7 +32,7 @@ all-eight : first 8 finite-at-zero ≡ true
 unfolding first finite-at-zero table add mul ofInt ofBits
 all-eight = refl
 
-module _ (j : Job) (h : hasCurve j ≡ true) where
+module _ (j : Job) (h : hasNumber (j .curve) ≡ true) where
   below-eight : j .curve - 1 < 8
   below-eight =
       let lo : 1 ≤ j .curve = leb-true 1 (j .curve) (and-first (leb 1 (j .curve)) (leb (j .curve) 8) h) in

@@ -1,18 +1,28 @@
--- Any two answers that the contract of `begin` allows are identical. Assumes nothing.
-use mathlib.Core.Path.{_≡_, refl, ap}
+-- Any two results that `begin`'s contract allows are identical (01, "How tight the contracts are"). Assumes nothing.
+use mathlib.Core.Path.{_≡_, refl, sym, ap, _∙_}
 use mathlib.Core.Bool.{cond}
+use mathlib.Core.List.{List}
+use Prim.Native.Nat.{ℕ}
 use lib.Dec.{eqb}
 use Rattle.numbers.specs.Results.{Result, value, refused}
 use Rattle.numbers.proofs.Determined.{determined}
 use Rattle.outcomes.proofs.Determined.{withNumber, number-back}
 use Rattle.outcomes.specs.Outcomes.{numberOf}
 use Rattle.outcomes.specs.declared.Refusal.{Refusal}
-use Rattle.outcomes.specs.declared.Refusal.the-variants.{SuppliedNotFinite, OutOfRange, ResultNotFinite, StepNotFinite, BudgetSpent, StepNotBetween, AlreadyOver}
+use Rattle.outcomes.specs.declared.Refusal.the-variants.{
+  SuppliedNotFinite,
+  OutOfRange,
+  ResultNotFinite,
+  StepNotFinite,
+  BudgetSpent,
+  StepNotBetween,
+  AlreadyOver,
+}
 use Rattle.curves.specs.declared.Curve.{Curve}
 use Rattle.hagerzhang.specs.declared.Step.{Step}
 use Rattle.opening.specs.declared.Opened.{Opened}
 use Rattle.opening.specs.declared.Opened.the-variants.{Begun, NoSearch, Unreadable}
-use Rattle.opening.specs.Start.{openedTold}
+use Rattle.opening.specs.Start.{openedTold, BeginSaid}
 
 opens : Result (Curve × Step) → Opened
 opens (value p) = Begun (p .0) (p .1)
@@ -34,5 +44,5 @@ opens-back (Begun c t) = refl
 opens-back (NoSearch k) = rw (not-nine k _ _) (ap NoSearch (number-back k))
 opens-back Unreadable = refl
 
-pub begin-determined : (r q : Opened) → openedTold r ≡ openedTold q → r ≡ q
-begin-determined = determined openedTold opens opens-back
+pub begin-determined : (bytes : List ℕ) (r q : Opened) → BeginSaid bytes r → BeginSaid bytes q → r ≡ q
+begin-determined bytes r q said said' = determined openedTold opens opens-back r q (said ∙ sym said')

@@ -1,3 +1,4 @@
 pub mod AtZero
 pub mod Refusals
+pub mod Begins
 pub mod Determined

@@ -1,71 +1,56 @@
--- The order of a job's refusals: what is not finite, then the curve's number with the ranges, then epsilon_k and L. Assumes nothing.
-use mathlib.Core.Path.{_≡_, refl, ap, _∙_}
-use mathlib.Core.Bool.{Bool, true, false, cond, _&&_}
+-- A start over the job's curve is what the job begins, once its numbers are finite and the curve has a number: the two
+-- tables differ in the first rows only. Assumes nothing.
+use mathlib.Core.Path.{_≡_, refl, sym, ap, _∙_}
+use mathlib.Core.Bool.{Bool, true, false, not}
+use mathlib.Core.List.{List, [], _∷_}
 use Prim.Native.Nat.{ℕ}
 use native.Mathlib.Omega.{arith}
-use lib.Ieee.{ofBits}
-use lib.Ieee.Scale.{finite}
-use Rattle.floats.specs.Arithmetic.{0ᶠ}
-use Rattle.numbers.specs.Results.{value, refused, unless_refuse_else_}
-use Rattle.outcomes.specs.declared.Refusal.the-variants.{OutOfRange, ResultNotFinite}
-use Rattle.rules.specs.declared.Options.{Options}
-use Rattle.rules.specs.declared.Setup.{Setup}
-use Rattle.rules.specs.Parameters.{paramsFinite, suppliedFinite, inRanges, epsilonK, levelOf, setupOf}
+use borrow.Author.Tests.{not-false}
+use Rattle.numbers.specs.Results.{Result, value, refused, Row, refuse_else_}
+use Rattle.outcomes.proofs.Refusals.{Passed, and, all, passed, alike}
+use Rattle.rules.specs.Parameters.{paramsFinite, rangeRows}
 use Rattle.curves.specs.declared.Curve.{Curve}
-use Rattle.curves.specs.Curves.{valueOf, slopeOf, numberedOf}
-use Rattle.hagerzhang.specs.declared.Started.the-variants.{Began, NoSearch}
-use Rattle.hagerzhang.specs.Machine.{fresh, startOf}
+use Rattle.curves.specs.Curves.{hasNumber, numberedAt, curveRows, numberedOf}
+use Rattle.hagerzhang.specs.declared.Step.{Step}
+use Rattle.hagerzhang.specs.Machine.{fresh}
 use Rattle.jobs.specs.declared.Job.{Job}
-use Rattle.opening.specs.Start.{hasCurve, curveOf, f0Of, s0Of, admittedOf, beginsWith, startedOn}
+use Rattle.opening.specs.Start.{curveOf, f0Of, setupFor, beginsBy, overCurve}
 use Rattle.opening.proofs.AtZero.{f0-finite, s0-finite}
 
-and-true : (a : Bool) → (a && true && true) ≡ a
-and-true true = refl
-and-true false = refl
+-- what a start comes to, with the curve beside it
+unfoldable pub on : Curve → Result Step → Result (Curve × Step)
+on c (value t) = value (c, t)
+on c (refused n) = refused n
 
--- at 0 and 0 what is asked is whether the job's own numbers are finite
-pub by-params : (o : Options) → suppliedFinite o 0ᶠ 0ᶠ ≡ paramsFinite (o .params)
-unfolding ofBits
-by-params o = and-true (paramsFinite (o .params))
+pub on-rows : (c : Curve) (rows : List Row) (t : Step) → on c (refuse rows else t) ≡ (refuse rows else (c, t))
+unfolding on
+on-rows c rows t = alike (on c) (λ r. r) (λ n. refl) t (c, t) refl rows
 
--- 3, then 4, as Hager-Zhang's own start has them
-then-start : (c : Curve) (s : Setup) (b d : Bool)
-    → startedOn c (cond b (cond d (Began (fresh s)) (NoSearch ResultNotFinite)) (NoSearch OutOfRange))
-    ≡ beginsWith c (unless b refuse 3 else unless d refuse 4 else value s)
-then-start c s true true = refl
-then-start c s true false = refl
-then-start c s false d = refl
+-- a table of one row refuses, and so does one that goes on behind it
+one-row : {A B : Type 0} (n m : ℕ) (b : Bool) (a : A) (rows : List Row) (x : B)
+    → refused n ≡ (refuse (m, b) ∷ [] else a) → refused n ≡ (refuse (m, b) ∷ rows else x)
+one-row n m true a rows x e = let same : n ≡ m = cc in ap refused same
+one-row n m false a rows x e = let z : _≡_ {A = ℕ} 0 1 = cc in absurd (omega arith)
+
+has-number : (n : ℕ) → Passed (curveRows n) → hasNumber n ≡ true
+has-number n (and three all) = not-false _ three
 
 module _ (j : Job) where
-  pub not-finite : paramsFinite (j .options .params) ≡ false → refused 2 ≡ beginsWith (curveOf j) (admittedOf j)
-  unfolding admittedOf
+  pub not-finite : paramsFinite (j .options .params) ≡ false → refused 2 ≡ beginsBy (value j)
   not-finite h = rw h
 
   module _ (fine : paramsFinite (j .options .params) ≡ true) where
-    pub without-curve : hasCurve j ≡ false → refused 3 ≡ beginsWith (curveOf j) (admittedOf j)
-    unfolding admittedOf
-    without-curve h = rw (fine, h)
-
-    pub over-curve : hasCurve j ≡ true → startedOn (curveOf j) (startOf (j .options) (f0Of j) (s0Of j)) ≡ beginsWith (curveOf j) (admittedOf j)
-    unfolding admittedOf
-    over-curve h =
-        rw (fine, h, f0-finite j h, s0-finite j h)
-        (then-start (curveOf j) (setupOf (j .options) (f0Of j) (s0Of j)) (inRanges (j .options)) (finite (epsilonK (j .options) (f0Of j)) && finite (levelOf (j .options) (f0Of j))))
+    over-curve : hasNumber (j .curve) ≡ true → overCurve (curveOf j) (j .options) ≡ beginsBy (value j)
+    over-curve h = rw (fine, h, f0-finite j h, s0-finite j h)
 
     -- by what the curves' own table answers
-    pub found-curve : (c : Curve) → value c ≡ numberedOf (j .curve) → startedOn c (startOf (j .options) (valueOf c 0ᶠ) (slopeOf c 0ᶠ)) ≡ beginsWith (curveOf j) (admittedOf j)
-    found-curve c e = by-number (hasCurve j) refl e
-      where
-        by-number : (b : Bool) → hasCurve j ≡ b → value c ≡ cond b (value (curveOf j)) (refused 3)
-            → startedOn c (startOf (j .options) (valueOf c 0ᶠ) (slopeOf c 0ᶠ)) ≡ beginsWith (curveOf j) (admittedOf j)
-        by-number true h e =
-            let same : c ≡ curveOf j = cc in
-            ap (λ (d : Curve). startedOn d (startOf (j .options) (valueOf d 0ᶠ) (slopeOf d 0ᶠ))) same ∙ over-curve h
-        by-number false h e = let z : _≡_ {A = ℕ} 0 1 = cc in absurd (omega arith)
+    pub found-curve : (c : Curve) → value c ≡ numberedOf (j .curve) → overCurve c (j .options) ≡ beginsBy (value j)
+    found-curve c e =
+        let p = passed (curveRows (j .curve)) (numberedAt (j .curve)) c (sym e) in
+        ap (λ (d : Curve). overCurve d (j .options)) (sym (p .1)) ∙ over-curve (has-number (j .curve) (p .0))
 
-    pub unknown-curve : (n : ℕ) → refused n ≡ numberedOf (j .curve) → refused n ≡ beginsWith (curveOf j) (admittedOf j)
-    unknown-curve n e = by-number (hasCurve j) refl e
-      where
-        by-number : (b : Bool) → hasCurve j ≡ b → refused n ≡ cond b (value (curveOf j)) (refused 3) → refused n ≡ beginsWith (curveOf j) (admittedOf j)
-        by-number true h e = let z : _≡_ {A = ℕ} 0 1 = cc in absurd (omega arith)
-        by-number false h e = let same : n ≡ 3 = cc in ap refused same ∙ without-curve h
+    pub unknown-curve : (n : ℕ) → refused n ≡ numberedOf (j .curve) → refused n ≡ beginsBy (value j)
+    unknown-curve n e =
+        let rows = rangeRows (j .options) (f0Of j) in
+        let begun : Curve × Step = (curveOf j, fresh (setupFor j)) in
+        rw fine (one-row n 3 (not (hasNumber (j .curve))) (numberedAt (j .curve)) rows begun e)

@@ -1,4 +1,5 @@
-// The search of a job: 01's refusals 9, 2, 3 and 4 over a whole job, in that order, or a search over the job's curve that has asked its first step.
+// The search of a job: 01's refusals 9, 2, 3 and 4 over a whole job, in that order, or a search over the job's curve
+// that has asked its first step.
 
 use curves::Curve;
 use curves::Known;
@@ -9,11 +10,8 @@ use jobs::Reading;
 use outcomes::Refusal;
 use rules::Options;
 ghost use mathlib.Core.Path.{_≡_};
-ghost use Rattle.floats.specs.Arithmetic.{0ᶠ};
 ghost use Rattle.numbers.specs.Results.{value};
-ghost use Rattle.curves.specs.Curves.{valueOf, slopeOf};
-ghost use Rattle.hagerzhang.specs.Machine.{startOf};
-ghost use Rattle.opening.specs.Start.{startedOn, beginsBy, beginOf, openedTold};
+ghost use Rattle.opening.specs.Start.{overCurve, beginsBy, openedTold, BeginSaid};
 
 // What a job begins: a search over a curve, which has asked its first step; or none.
 pub enum Opened {
@@ -24,8 +22,9 @@ pub enum Opened {
     Unreadable,
 }
 
+// A start at the curve's cost and slope at 0.
 fn search_over(c: Curve, o: Options) -> Opened
-    ensures { λ r. ⌜ openedTold r ≡ startedOn c (startOf o (valueOf c 0ᶠ) (slopeOf c 0ᶠ)) ⌝ }
+    ensures { λ r. ⌜ openedTold r ≡ overCurve c o ⌝ }
 {
     match hagerzhang::start(o, c.value(0.0), c.slope(0.0)) {
         Started::Began(t) => Opened::Begun(c, t),
@@ -33,12 +32,13 @@ fn search_over(c: Curve, o: Options) -> Opened
     }
 }
 
-// Any number that is not finite (2) comes before the curve's number and the ranges (3), and these before epsilon_k and L (4).
+// Any number that is not finite (2) comes before the curve's number and the ranges (3), and these before epsilon_k and
+// L (4).
 fn start(j: Job) -> Opened
     ensures { λ r. ⌜ openedTold r ≡ beginsBy (value j) ⌝ }
 {
     let o = j.options;
-    if !parameters::supplied_finite(o, 0.0, 0.0) {
+    if !parameters::params_finite(o.params) {
         return Opened::NoSearch(Refusal::SuppliedNotFinite);
     }
     match curves::numbered(j.curve) {
@@ -49,7 +49,7 @@ fn start(j: Job) -> Opened
 
 // The search of a job, for any bytes.
 pub fn begin(job: &[u8]) -> Opened
-    ensures { λ r. ⌜ openedTold r ≡ beginOf (now (job .entry)) ⌝ }
+    ensures { λ r. ⌜ BeginSaid (now (job .entry)) r ⌝ }
 {
     match jobs::read(job) {
         Reading::Whole(j) => start(j),

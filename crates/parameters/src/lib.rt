@@ -26,7 +26,8 @@ pub fn defaults() -> Options
     }
 }
 
-fn params_finite(p: Params) -> bool
+// The parameters' own part of refusal 2.
+pub fn params_finite(p: Params) -> bool
     ensures { λ r. ⌜ r ≡ paramsFinite p ⌝ }
 {
     let wolfe = numbers::both_finite(p.delta, p.sigma);

@@ -1,13 +1,14 @@
--- A play tells what 01's rules tell with the curve's answers: turn after turn (`plays`), all of it once the play is over (`chunks-told`), and it is over after as many
--- turns as there is to tell (`over-in-time`). Assumes nothing.
+-- A play tells what 01's rules tell with the curve's answers: turn after turn (`plays`), all of it once the play is
+-- over (`chunks-told`), and it is over after as many turns as there is to tell (`over-in-time`). Of the setup only: its
+-- limit is a u32, and its L is no NaN (`Fits`).
 use mathlib.Core.Path.{_≡_, refl, sym, ap, _∙_, subst}
 use mathlib.Core.Bool.{Bool, true, false, cond}
 use mathlib.Core.List.{List, [], _∷_, _++_, append-assoc}
 use Prim.Native.Nat.{ℕ, zero, suc, _+_, _≤_, _<_}
 use native.Mathlib.Omega.{arith}
 use lib.ListN.{length}
-use lib.Ieee.{Float}
-use Rattle.outcomes.specs.Outcomes.{asks, ends, told}
+use lib.Ieee.{Float, isNan}
+use Rattle.outcomes.specs.Outcomes.{asks, ends, numbered, told}
 use Rattle.outcomes.specs.Asking.{Search as Rest, Over as Ended, ask, end, respond, shown, reported, onceTold}
 use Rattle.outcomes.proofs.Machines.{adds-one}
 use Rattle.outcomes.proofs.Ends.{Ends, at-ask}
@@ -15,7 +16,7 @@ use Rattle.outcomes.proofs.Determined.{told-determined}
 use Rattle.outcomes.specs.declared.Outcome.{Outcome}
 use Rattle.outcomes.specs.declared.Outcome.the-variants.{Ask, Stop, Limit, Refused}
 use Rattle.rules.specs.declared.Setup.{Setup}
-use Rattle.rules.specs.Rules.{answerFinite, Report}
+use Rattle.rules.specs.Rules.{answerFinite, Report, iterationsIn}
 use Rattle.curves.specs.declared.Curve.{Curve}
 use Rattle.curves.specs.Curves.{valueOf, slopeOf}
 use Rattle.hagerzhang.specs.declared.Stage.{Stage}
@@ -28,14 +29,17 @@ use Rattle.hagerzhang.proofs.Answering.{setup-kept, one-more-if-finite, reports
 use Rattle.hagerzhang.proofs.Bridge.{follows}
 use Rattle.play.specs.declared.Played.{Played}
 use Rattle.play.specs.declared.Played.the-variants.{On, Over}
-use Rattle.play.specs.Telling.{Said, iterationsIn, telling, saidLine, textOf}
+use Rattle.play.specs.Telling.{Said, telling, saidLine, textOf}
 use Rattle.play.specs.Playing.{saidOf, answeredBy, nextOf, saidIn, leftAfter, chunks, leftAfterChunks}
 
 -- ---- what an answer to a search that asks counts
-counts-on : (b : Search) (f g : Float) (stage : Stage) (k : Report) (x : Float) (then : Float → Float → Rest Report) → meaning (b .setup) stage ≡ ask k x then
-    → b .evaluations .0 < 4294967295 → answerBy b f g stage .search .evaluations .0 ≡ b .evaluations .0 + cond (answerFinite f g) 1 0
+counts-on : (b : Search) (f g : Float) (stage : Stage) (k : Report) (x : Float) (then : Float → Float → Rest Report)
+    → meaning (b .setup) stage ≡ ask k x then
+    → b .evaluations .0 < 4294967295
+    → answerBy b f g stage .search .evaluations .0 ≡ b .evaluations .0 + cond (answerFinite f g) 1 0
 unfolding meaning
-counts-on b f g (Open waiting) k x then e h = let z = adds-one (answerFinite f g) (b .evaluations .0) 0 _ h (one-more-if-finite b f g waiting) in omega arith
+counts-on b f g (Open waiting) k x then e h =
+    let z = adds-one (answerFinite f g) (b .evaluations .0) 0 _ h (one-more-if-finite b f g waiting) in omega arith
 counts-on b f g (OverStage kept) k x then e h = let z : _≡_ {A = ℕ} 0 1 = cc in absurd (omega arith)
 
 -- ---- texts one after the other
@@ -46,10 +50,16 @@ no-text = refl
 text-append : (k l : List Said) → textOf (k ++ l) ≡ textOf k ++ textOf l
 unfolding textOf
 text-append [] l = refl
-text-append (s ∷ k) l = ap (λ (t : List ℕ). saidLine s ++ t) (text-append k l) ∙ sym (append-assoc (saidLine s) (textOf k) (textOf l))
+text-append (s ∷ k) l =
+    ap (λ (t : List ℕ). saidLine s ++ t) (text-append k l) ∙ sym (append-assoc (saidLine s) (textOf k) (textOf l))
+
+-- what is needed of a setup; one that a start accepts has it (`start-fits`, Output.antt)
+pub record Fits (s : Setup) : Type 0 where
+  pub limit : s .options .limit < 4294967296
+  pub level : isNan (s .level) ≡ false
 
 -- ---- a step stands where a run of the rules stands that has made e evaluations and ends within m answers
-module _ (s : Setup) (fits : s .options .limit < 4294967296) (c : Curve) where
+module _ (s : Setup) (fits : Fits s) (c : Curve) where
   pub record Stands (e m : ℕ) (t : Step) (r : Rest Report) : Type 0 where
     pub same-setup : t .search .setup ≡ s
     pub tells : told (t .outcome) ≡ shown r
@@ -73,7 +83,8 @@ module _ (s : Setup) (fits : s .options .limit < 4294967296) (c : Curve) where
   reported-by b r e = ap iterationsIn (sym (reports (b .setup) (b .stage)) ∙ ap reported e)
 
   module _ (e m : ℕ) (t : Step) where
-    module _ (k : Report) (x : Float) (then : Float → Float → Rest Report) (at : Stands e (suc m) t (ask k x then)) (more : (f g : Float) → Ends answerFinite m (then f g)) where
+    module _ (k : Report) (x : Float) (then : Float → Float → Rest Report) (at : Stands e (suc m) t (ask k x then))
+        (more : (f g : Float) → Ends answerFinite m (then f g)) where
       abbrev f : Float
       f = valueOf c x
 
@@ -91,8 +102,8 @@ module _ (s : Setup) (fits : s .options .limit < 4294967296) (c : Curve) where
       unfolding shown
       asked = told-determined (t .outcome) (Ask x) (at .tells)
 
-      limit-fits : t .search .setup .options .limit < 4294967296
-      limit-fits = rw (at .same-setup) fits
+      still-fits : Fits (t .search .setup)
+      still-fits = subst Fits (sym (at .same-setup)) fits
 
       abbrev e' : ℕ
       e' = e + cond (answerFinite f g) 1 0
@@ -107,14 +118,15 @@ module _ (s : Setup) (fits : s .options .limit < 4294967296) (c : Curve) where
 
       stands-next : Stands e' m t' (then f g)
       stands-next =
-          let z = follows (t .search) limit-fits f g t' refl in
+          let z = follows (t .search) (still-fits .limit) (still-fits .level) f g t' refl in
           let h = at .few in
           let n = at .counts in
+          let counted = counts-on (t .search) f g (t .search .stage) k x then is-run (omega arith) in
           record {
             same-setup = setup-kept (t .search) f g (t .search .stage) ∙ at .same-setup;
             tells = z .tells ∙ ap shown responds;
             leaves = z .leaves ∙ ap onceTold responds;
-            counts = counts-on (t .search) f g (t .search .stage) k x then is-run (omega arith) ∙ ap (λ (i : ℕ). i + cond (answerFinite f g) 1 0) n;
+            counts = counted ∙ ap (λ (i : ℕ). i + cond (answerFinite f g) 1 0) n;
             within = more f g;
             few = at-most-one (answerFinite f g);
           }
@@ -136,14 +148,14 @@ module _ (s : Setup) (fits : s .options .limit < 4294967296) (c : Curve) where
       }
 
     module _ (o : Ended Report) (at : Stands e m t (end o)) where
-      stops-at : (q : Outcome) → told q ≡ ends (o .by) → answeredBy c (t .search) q ≡ Over
+      stops-at : (q : Outcome) → told q ≡ ends (numbered (o .by)) → answeredBy c (t .search) q ≡ Over
       unfolding answeredBy
       stops-at (Ask x) h = let z : _≡_ {A = ℕ} 0 1 = cc in absurd (omega arith)
       stops-at (Stop v x) h = refl
       stops-at (Limit x) h = refl
       stops-at (Refused n) h = refl
 
-      is-told : told (t .outcome) ≡ ends (o .by)
+      is-told : told (t .outcome) ≡ ends (numbered (o .by))
       unfolding shown
       is-told = at .tells
 
@@ -151,7 +163,8 @@ module _ (s : Setup) (fits : s .options .limit < 4294967296) (c : Curve) where
       unfolding onceTold reported
       keeps-report = reported-by (t .search) (onceTold (end o)) (at .leaves)
 
-      ends-so : record { told = ends (o .by); evaluations = e; iterations = iterationsIn (o .keeps) } ≡ saidOf t
+      ends-so : record { told = ends (numbered (o .by)); evaluations = e; iterations = iterationsIn (o .keeps) }
+          ≡ saidOf t
       ends-so = rw (is-told, at .counts, keeps-report)
 
       end-turn : Turn t (telling c e (end o))
@@ -182,7 +195,11 @@ module _ (s : Setup) (fits : s .options .limit < 4294967296) (c : Curve) where
   plays (suc n) (On t) l h =
       let z = turn-of t l h in
       let more = plays n (nextOf c t) (z .others) (z .matches) in
-      record { others = more .others; split = z .first ∙ ap (λ (a : List Said). saidOf t ∷ a) (more .split); matches = more .matches }
+      record {
+        others = more .others;
+        split = z .first ∙ ap (λ (a : List Said). saidOf t ∷ a) (more .split);
+        matches = more .matches;
+      }
 
   nothing-left : (p : Played) (l : List Said) → Matches p l → p ≡ Over → l ≡ []
   nothing-left Over [] at-over e = refl
@@ -203,7 +220,8 @@ module _ (s : Setup) (fits : s .options .limit < 4294967296) (c : Curve) where
       over-in-time n (nextOf c t) (z .others) (z .matches) (omega arith)
 
   -- chunk after chunk: once the play is over, they are the whole text
-  pub chunks-told : (n k : ℕ) (p : Played) (l : List Said) → Matches p l → leftAfterChunks c n k p ≡ Over → chunks c n k p ≡ textOf l
+  pub chunks-told : (n k : ℕ) (p : Played) (l : List Said) → Matches p l → leftAfterChunks c n k p ≡ Over
+      → chunks c n k p ≡ textOf l
   unfolding chunks leftAfterChunks
   chunks-told n zero p l h e = sym (ap textOf (nothing-left p l h e) ∙ no-text)
   chunks-told n (suc k) p l h e =

@@ -1,4 +1,5 @@
--- A play ends: each turn of it leaves less to tell (`less-to-tell`), and leaves a play that ends likewise (`plays-on`). This is what a loop over a play rests on. Assumes nothing.
+-- A play ends: each turn of it leaves less to tell (`less-to-tell`), and leaves a play that ends likewise (`plays-on`).
+-- This is what a loop over a play rests on. Assumes nothing.
 use mathlib.Core.Path.{_≡_, refl, sym, ap, _∙_}
 use mathlib.Core.List.{List, []}
 use Prim.Native.Nat.{ℕ, zero, suc, _+_, _<_}
@@ -7,17 +8,18 @@ use lib.ListN.{length, length-append}
 use Rattle.numbers.specs.Results.{value}
 use Rattle.outcomes.specs.Asking.{Search as Rest, ask, end, onceTold}
 use Rattle.rules.specs.declared.Setup.{Setup}
-use Rattle.rules.specs.Rules.{Report, search}
+use Rattle.rules.specs.Rules.{Report}
 use Rattle.curves.specs.declared.Curve.{Curve}
 use Rattle.hagerzhang.specs.declared.Step.{Step}
 use Rattle.hagerzhang.specs.Meaning.{meant}
-use Rattle.opening.specs.Start.{beginOf}
+use Rattle.opening.specs.Start.{setupFor, beginOf}
+use Rattle.opening.proofs.Begins.{begun}
 use Rattle.play.specs.declared.Played.{Played}
 use Rattle.play.specs.declared.Played.the-variants.{On, Over}
 use Rattle.play.specs.Telling.{Said, telling}
 use Rattle.play.specs.Playing.{saidIn, leftAfter}
-use Rattle.play.proofs.ByRules.{Matches, at-over, at-step, plays}
-use Rattle.play.proofs.Output.{begun-plays, limit-fits}
+use Rattle.play.proofs.ByRules.{Fits, Matches, at-over, at-step, plays}
+use Rattle.play.proofs.Output.{begun-fits, begun-plays, toldBy}
 
 -- how many outcomes there are to tell
 pub toTell : Curve → Played → ℕ
@@ -27,7 +29,7 @@ toTell c (On t) = length (telling c 0 (meant (t .search)))
 -- a play that the rules match
 pub record Playable (c : Curve) (p : Played) : Type 0 where
   pub setup : Setup
-  pub fits : setup .options .limit < 4294967296
+  pub fits : Fits setup
   pub outcomes : List Said
   pub matches : Matches setup fits c p outcomes
 
@@ -41,10 +43,12 @@ rest-count : (c : Curve) (e : ℕ) (r : Rest Report) → length (telling c 0 (on
 rest-count c e (end o) = unfold onceTold telling in refl
 rest-count c e (ask k x then) = unfold onceTold in same-count c 0 e (ask k x then)
 
-counted : (s : Setup) (fits : s .options .limit < 4294967296) (c : Curve) (p : Played) (l : List Said) → Matches s fits c p l → toTell c p ≡ length l
+counted : (s : Setup) (fits : Fits s) (c : Curve) (p : Played) (l : List Said) → Matches s fits c p l
+    → toTell c p ≡ length l
 unfolding toTell
 counted s fits c Over [] at-over = refl
-counted s fits c (On t) l (at-step {e} {r = r} at) = ap (λ (q : Rest Report). length (telling c 0 q)) (at .leaves) ∙ rest-count c e r
+counted s fits c (On t) l (at-step {e} {r = r} at) =
+    ap (λ (q : Rest Report). length (telling c 0 q)) (at .leaves) ∙ rest-count c e r
 
 says-one : (c : Curve) (n : ℕ) (t : Step) → 0 < n → 0 < length (saidIn n c (On t))
 unfolding saidIn
@@ -52,7 +56,8 @@ says-one c zero t h = absurd (omega arith)
 says-one c (suc n) t h = omega arith
 
 -- from p, which goes on with t, n turns lead to q
-module _ (c : Curve) (n : ℕ) (p q : Played) (t : Step) (m : Playable c p) (e : p ≡ On t) (f : q ≡ leftAfter n c (On t)) where
+module _ (c : Curve) (n : ℕ) (p q : Played) (t : Step) (m : Playable c p) (e : p ≡ On t)
+    (f : q ≡ leftAfter n c (On t)) where
   leads : q ≡ leftAfter n c p
   leads = f ∙ ap (leftAfter n c) (sym e)
 
@@ -65,13 +70,20 @@ module _ (c : Curve) (n : ℕ) (p q : Played) (t : Step) (m : Playable c p) (e :
   less-to-tell h =
       let g = plays (m .setup) (m .fits) c n p (m .outcomes) (m .matches) in
       let before = counted (m .setup) (m .fits) c p (m .outcomes) (m .matches) in
-      let after : toTell c q ≡ length (g .others) = ap (toTell c) leads ∙ counted (m .setup) (m .fits) c (leftAfter n c p) (g .others) (g .matches) in
-      let split : length (m .outcomes) ≡ length (saidIn n c p) + length (g .others) = ap length (g .split) ∙ length-append (saidIn n c p) (g .others) in
+      let after : toTell c q ≡ length (g .others) =
+      ap (toTell c) leads ∙ counted (m .setup) (m .fits) c (leftAfter n c p) (g .others) (g .matches) in
+      let split : length (m .outcomes) ≡ length (saidIn n c p) + length (g .others) =
+      ap length (g .split) ∙ length-append (saidIn n c p) (g .others) in
       let some : 0 < length (saidIn n c p) = rw e (says-one c n t h) in
       omega arith
 
 -- what a job begins is such a play
-pub begun-playable : (s : List ℕ) (c : Curve) (t : Step) → beginOf s ≡ value (c, t) → Playable c (On t)
-begun-playable s c t h =
-    let p = begun-plays s c t h in
-    record { setup = p .setup; fits = limit-fits (p .job) (p .setup) (p .is-admitted); outcomes = telling c 0 (search (p .setup)); matches = p .matches }
+pub begun-playable : (bytes : List ℕ) (c : Curve) (t : Step) → beginOf bytes ≡ value (c, t) → Playable c (On t)
+begun-playable bytes c t h =
+    let b = begun bytes c t h in
+    record {
+      setup = setupFor (b .job);
+      fits = begun-fits bytes c t b;
+      outcomes = toldBy bytes c t b;
+      matches = begun-plays bytes c t b;
+    }

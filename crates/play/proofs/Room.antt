@@ -1,5 +1,5 @@
--- Nothing is cut off: 512 turns write at most 99 bytes each, and a buffer of 65,536 bytes has room for all of them, so that its front is then their text
--- (`whole-lines`). Assumes nothing.
+-- Nothing is cut off: 512 turns write at most 99 bytes each, and a buffer of 65,536 bytes has room for all of them, so
+-- that its front is then their text (`whole-lines`). Assumes nothing.
 use mathlib.Core.Path.{_≡_, sym, ap, _∙_, subst}
 use mathlib.Core.Bool.{Bool, true, false, cond}
 use mathlib.Core.List.{List, [], _∷_, _++_, append-nil}
@@ -12,7 +12,7 @@ use native.Mathlib.Numerals.{add-one}
 use borrow.Author.Tests.{lt-ltb}
 use Rattle.outcomes.specs.Outcomes.{Word, met, wolfe, approximate, stop, limit, refusal, Told, asks, ends}
 use Rattle.curves.specs.declared.Curve.{Curve}
-use Rattle.text.specs.Text.{Page, page, put, write, digit, decimalUpTo}
+use Rattle.text.specs.Text.{Page, page, put, write, Writes, digit, decimalUpTo}
 use Rattle.lines.specs.Lines.{verdictText, lineOf}
 use Rattle.play.specs.declared.Played.{Played}
 use Rattle.play.specs.declared.Played.the-variants.{On, Over}
@@ -25,7 +25,8 @@ unfolding decimalUpTo
 short-decimal zero n = omega arith
 short-decimal (suc k) n = by-test (ltb n 10) (short-decimal k (n / 10))
   where
-    by-test : (b : Bool) → length (decimalUpTo k (n / 10)) ≤ k → length (cond b (digit n ∷ []) (decimalUpTo k (n / 10) ++ digit (n % 10) ∷ [])) ≤ suc k
+    by-test : (b : Bool) → length (decimalUpTo k (n / 10)) ≤ k
+        → length (cond b (digit n ∷ []) (decimalUpTo k (n / 10) ++ digit (n % 10) ∷ [])) ≤ suc k
     by-test true h = omega arith
     by-test false h = simp length-append (omega arith)
 
@@ -36,7 +37,8 @@ short-verdict approximate = omega arith
 
 short-line : (t : Told) (e i : ℕ) → length (lineOf t e i) ≤ 99
 short-line (asks x) e i = omega arith
-short-line (ends (stop w x)) e i = simp length-append (omega (arith, short-verdict w, short-decimal 20 e, short-decimal 20 i))
+short-line (ends (stop w x)) e i =
+    simp length-append (omega (arith, short-verdict w, short-decimal 20 e, short-decimal 20 i))
 short-line (ends (limit x)) e i = simp length-append (omega (arith, short-decimal 20 e, short-decimal 20 i))
 short-line (ends (refusal n)) e i = simp length-append (omega (arith, short-decimal 20 n))
 
@@ -56,7 +58,8 @@ few-said (suc n) c (On t) = let h = few-said n c (nextOf c t) in omega arith
 
 -- ---- a text for which there is room is written whole
 written : (held : List ℕ) (at : ℕ) (t : List ℕ) → at + length t ≤ length held
-    → (write (page held at) t .at ≡ at + length t) × (take (at + length t) (write (page held at) t .held) ≡ take at held ++ t)
+    → (write (page held at) t .at ≡ at + length t)
+    × (take (at + length t) (write (page held at) t .held) ≡ take at held ++ t)
 unfolding write
 written held at [] room =
     let z : at + 0 ≡ at = omega arith in
@@ -64,14 +67,18 @@ written held at [] room =
 written held at (b ∷ t) room =
     let more = written (set held at b) (at + 1) t (simp length-set (omega arith)) in
     let n : at + suc (length t) ≡ at + 1 + length t = omega arith in
-    let first : take (at + 1) (set held at b) ≡ take at held ++ (b ∷ []) = rw add-one (take-suc-set held at b (omega arith)) in
+    let first : take (at + 1) (set held at b) ≡ take at held ++ (b ∷ []) =
+    rw add-one (take-suc-set held at b (omega arith)) in
     let same : put (page held at) b ≡ page (set held at b) (at + 1) = rw (lt-ltb at (length held) (omega arith)) in
-    subst (λ (q : Page). (write q t .at ≡ at + suc (length t)) × (take (at + suc (length t)) (write q t .held) ≡ take at held ++ b ∷ t)) (sym same)
+    subst
+    (λ (q : Page). (write q t .at ≡ at + suc (length t))
+    × (take (at + suc (length t)) (write q t .held) ≡ take at held ++ b ∷ t))
+    (sym same)
     (rw n (more .0, more .1 ∙ ap (λ (l : List ℕ). l ++ t) first ∙ append-snoc (take at held) b t))
 
 -- what is written from the front of the program's buffer is the text of these turns, with nothing cut off
 pub whole-lines : (c : Curve) (p : Played) (n : ℕ) (before after : List ℕ) (at : ℕ) → n ≤ 512 → 65536 ≤ length before
-    → page after at ≡ write (page before 0) (textOf (saidIn n c p)) → take at after ≡ textOf (saidIn n c p)
+    → Writes before 0 (textOf (saidIn n c p)) after at → take at after ≡ textOf (saidIn n c p)
 whole-lines c p n before after at few room e =
     let text = textOf (saidIn n c p) in
     let fits : 0 + length text ≤ length before = omega (arith, short-text (saidIn n c p), few-said n c p) in

@@ -57,9 +57,12 @@ module _ (c : Curve) where
       (rw z (sym (all-left p)), rw (z, none-said p) (nothing q))
 
   -- one turn, which writes a line
-  pub turn-left : (n : ℕ) (p q : Played) (t : Step) → 0 < n → p ≡ On t → q ≡ nextOf c t → leftAfter (n - 1) c q ≡ leftAfter n c p
+  pub turn-left : (n : ℕ) (p q : Played) (t : Step) → 0 < n → p ≡ On t → q ≡ nextOf c t
+      → leftAfter (n - 1) c q ≡ leftAfter n c p
   turn-left n p q t h e f = rw (e, f) (sym (left-first n t h))
 
-  pub turn-ahead : (n : ℕ) (p q : Played) (t : Step) (a b : Page) → 0 < n → p ≡ On t → q ≡ nextOf c t → b ≡ write a (saidLine (saidOf t)) → ahead (n - 1) q b ≡ ahead n p a
+  pub turn-ahead : (n : ℕ) (p q : Played) (t : Step) (a b : Page) → 0 < n → p ≡ On t → q ≡ nextOf c t
+      → b ≡ write a (saidLine (saidOf t)) → ahead (n - 1) q b ≡ ahead n p a
   unfolding textOf
-  turn-ahead n p q t a b h e f w = rw (e, f, said-first n t h) (then a (saidLine (saidOf t)) (textOf (saidIn (n - 1) c (nextOf c t))) w refl)
+  turn-ahead n p q t a b h e f w =
+      rw (e, f, said-first n t h) (then a (saidLine (saidOf t)) (textOf (saidIn (n - 1) c (nextOf c t))) w refl)

@@ -1,9 +1,13 @@
--- How a search is played, turn by turn: the bookkeeping that the contracts cite. That this tells what 01's rules tell is proved in proofs/ByRules.antt.
+-- How a search is played, turn by turn: the bookkeeping that the contracts cite, and what `play`'s says (`PlaySaid`).
+-- That this tells what 01's rules tell is proved in proofs/ByRules.antt.
 use Prim.Native.Nat.{ℕ, zero, suc}
+use mathlib.Core.Path.{_≡_}
 use mathlib.Core.List.{List, [], _∷_, _++_}
 use Rattle.outcomes.specs.Outcomes.{told}
 use Rattle.outcomes.specs.declared.Outcome.{Outcome}
 use Rattle.outcomes.specs.declared.Outcome.the-variants.{Ask, Stop, Limit, Refused}
+use Rattle.rules.specs.Rules.{iterationsIn}
+use Rattle.text.specs.Text.{Writes}
 use Rattle.curves.specs.declared.Curve.{Curve}
 use Rattle.curves.specs.Curves.{valueOf, slopeOf}
 use Rattle.hagerzhang.specs.declared.Search.{Search}
@@ -12,14 +16,16 @@ use Rattle.hagerzhang.specs.Machine.{answerOf}
 use Rattle.hagerzhang.specs.Meaning.{report}
 use Rattle.play.specs.declared.Played.{Played}
 use Rattle.play.specs.declared.Played.the-variants.{On, Over}
-use Rattle.play.specs.Telling.{Said, iterationsIn, textOf}
-
-abbrev pub finishedOf : Search → ℕ
-finishedOf s = iterationsIn (report s)
+use Rattle.play.specs.declared.Written.{Written}
+use Rattle.play.specs.Telling.{Said, textOf}
 
 -- what a step says
 abbrev pub saidOf : Step → Said
-saidOf t = record { told = told (t .outcome); evaluations = t .search .evaluations .0; iterations = finishedOf (t .search) }
+saidOf t = record {
+  told = told (t .outcome);
+  evaluations = t .search .evaluations .0;
+  iterations = iterationsIn (report (t .search));
+}
 
 -- what follows it: the curve answers a step that is asked; any other outcome is the last
 unfoldable pub answeredBy : Curve → Search → Outcome → Played
@@ -41,6 +47,13 @@ unfoldable pub leftAfter : ℕ → Curve → Played → Played
 leftAfter zero c p = p
 leftAfter (suc n) c Over = Over
 leftAfter (suc n) c (On t) = leftAfter n c (nextOf c t)
+
+-- what `play`'s contract says of a result r of so many turns: what is left of the play, and the buffer with the lines
+-- of these turns written at its place
+pub record PlaySaid (c : Curve) (from : Played) (turns : ℕ) (before : List ℕ) (at : ℕ) (r : Written)
+    (after : List ℕ) : Type 0 where
+  pub left : r .played ≡ leftAfter turns c from
+  pub lines : Writes before at (textOf (saidIn turns c from)) after (r .at)
 
 -- k chunks of n turns each: their text, and what is left
 unfoldable pub chunks : Curve → ℕ → ℕ → Played → List ℕ

@@ -1,10 +1,11 @@
--- What a search over a curve tells, by 01's rules alone: each step that it asks is answered with the curve's cost and slope there, until it ends.
+-- What a search over a curve tells, by 01's rules alone: each step that it asks is answered with the curve's cost and
+-- slope there, until it ends.
 use Prim.Native.Nat.{ℕ, _+_}
 use mathlib.Core.Bool.{cond}
 use mathlib.Core.List.{List, [], _∷_, _++_}
-use Rattle.outcomes.specs.Outcomes.{Told, asks, ends}
+use Rattle.outcomes.specs.Outcomes.{Told, asks, ends, numbered}
 use Rattle.outcomes.specs.Asking.{Search, ask, end}
-use Rattle.rules.specs.Rules.{answerFinite, Report, noneYet, last}
+use Rattle.rules.specs.Rules.{answerFinite, Report, iterationsIn}
 use Rattle.curves.specs.declared.Curve.{Curve}
 use Rattle.curves.specs.Curves.{valueOf, slopeOf}
 use Rattle.lines.specs.Lines.{lineOf}
@@ -15,17 +16,13 @@ pub record Said : Type 0 where
   pub evaluations : ℕ
   pub iterations : ℕ
 
--- the finished iterations of which a search reports
-abbrev pub iterationsIn : Report → ℕ
-iterationsIn noneYet = 0
-iterationsIn (last l) = l .iterations
-
 -- from e evaluations on. 01: "Evaluations count every finite answer accepted"
 unfoldable pub telling : Curve → ℕ → Search Report → List Said
 telling c e (ask k x then) =
     record { told = asks x; evaluations = e; iterations = iterationsIn k }
     ∷ telling c (e + cond (answerFinite (valueOf c x) (slopeOf c x)) 1 0) (then (valueOf c x) (slopeOf c x))
-telling c e (end o) = record { told = ends (o .by); evaluations = e; iterations = iterationsIn (o .keeps) } ∷ []
+telling c e (end o) =
+    record { told = ends (numbered (o .by)); evaluations = e; iterations = iterationsIn (o .keeps) } ∷ []
 
 -- the lines
 abbrev pub saidLine : Said → List ℕ

@@ -1,19 +1,13 @@
-// The play of a Hager-Zhang search over a curve: the curve answers each step that is asked, and every outcome is written as a line.
+// The play of a Hager-Zhang search over a curve: the curve answers each step that is asked, and every outcome is
+// written as a line.
 
 use curves::Curve;
-use hagerzhang::Kept;
-use hagerzhang::Search;
-use hagerzhang::Stage;
 use hagerzhang::Step;
-use hagerzhang::Waiting;
-use outcomes::Iterations;
 use outcomes::Outcome;
 ghost use mathlib.Core.Path.{_≡_};
-ghost use Rattle.text.specs.Text.{page, write};
-ghost use Rattle.hagerzhang.specs.Machine.{keptOf};
-ghost use Rattle.hagerzhang.specs.Meaning.{keptReport};
-ghost use Rattle.play.specs.Telling.{iterationsIn, saidLine, textOf};
-ghost use Rattle.play.specs.Playing.{finishedOf, saidOf, nextOf, saidIn, leftAfter};
+ghost use Rattle.text.specs.Text.{Writes};
+ghost use Rattle.play.specs.Telling.{saidLine};
+ghost use Rattle.play.specs.Playing.{saidOf, nextOf, PlaySaid};
 
 // A play goes on with a step whose outcome is still to be told, or everything is told.
 pub enum Played {
@@ -27,45 +21,15 @@ pub struct Written {
     pub at: usize,
 }
 
-fn while_open(w: Waiting) -> Iterations
-    ensures { λ r. ⌜ r .0 ≡ iterationsIn (keptReport (keptOf w)) ⌝ }
-{
-    match w {
-        Waiting::Low => Iterations(0),
-        Waiting::High(_) => Iterations(0),
-        Waiting::Start(_) => Iterations(0),
-        Waiting::Running(last, _, _) => last.iterations,
-    }
-}
-
-fn once_over(k: Kept) -> Iterations
-    ensures { λ r. ⌜ r .0 ≡ iterationsIn (keptReport k) ⌝ }
-{
-    match k {
-        Kept::NoneYet => Iterations(0),
-        Kept::Last(last) => last.iterations,
-    }
-}
-
-// The iterations that a search has finished.
-fn finished(s: Search) -> Iterations
-    ensures { λ r. ⌜ r .0 ≡ finishedOf s ⌝ }
-{
-    let stage = s.stage;
-    match stage {
-        Stage::Open(w) => while_open(w),
-        Stage::Over(k) => once_over(k),
-    }
-}
-
 // The line of a step's outcome.
 fn line(out: &mut [u8], at: usize, t: Step) -> usize
-    ensures { λ r. ⌜ page (now (out .exit)) r ≡ write (page (now (out .entry)) at) (saidLine (saidOf t)) ⌝ }
+    ensures { λ r. ⌜ Writes (now (out .entry)) at (saidLine (saidOf t)) (now (out .exit)) r ⌝ }
 {
     let s = t.search;
     let o = t.outcome;
     let e = s.evaluations;
-    lines::outcome(out, at, o, e, finished(s))
+    let kept = hagerzhang::held(s);
+    lines::outcome(out, at, o, e, kept.iterations())
 }
 
 // The curve answers a step that is asked; any other outcome is the last.
@@ -84,8 +48,7 @@ fn answered(c: Curve, t: Step) -> Played
 
 // Plays on for so many turns at most: each writes a line at a place of the buffer, as much as there is room for.
 pub fn play(c: Curve, from: Played, turns: u32, out: &mut [u8], at: usize) -> Written
-    ensures left { λ r. ⌜ r .played ≡ leftAfter turns c from ⌝ }
-    ensures lines { λ r. ⌜ page (now (out .exit)) (r .at) ≡ write (page (now (out .entry)) at) (textOf (saidIn turns c from)) ⌝ }
+    ensures { λ r. ⌜ PlaySaid c from turns (now (out .entry)) at r (now (out .exit)) ⌝ }
 {
     let mut played = from;
     let mut next = at;

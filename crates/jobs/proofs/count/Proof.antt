@@ -11,11 +11,14 @@ use Rattle.jobs.proofs.Parts.{within, count-there, count-absent, pair-f
 use Rattle.jobs.proofs.count.Statement.{statement}
 use Rattle.jobs.proofs.count.Tie as tie
 
-there : (c : tie.Then1) → let a = c .before .before .before .args in begins (a .p .1) (a .p .2) (drop (a .p .0) (now (a .job))) ≡ true
+there : (c : tie.Then1) → let a = c .before .before .before .args in
+    begins (a .p .1) (a .p .2) (drop (a .p .0) (now (a .job))) ≡ true
 there c = sym (c .before .stands .ensures) ∙ c .if1 .taken
 
 whole : (c : tie.Then1) → let a = c .before .before .before .args in a .p .0 + 3 + a .p .2 ≤ length (now (a .job))
-whole c = let a = c .before .before .before .args in within (now (a .job)) (a .p .0) (a .p .1) (a .p .2) (c .before .before .before .pre .0) (there c)
+whole c =
+    let a = c .before .before .before .args in
+    within (now (a .job)) (a .p .0) (a .p .1) (a .p .2) (c .before .before .before .pre .0) (there c)
 
 part-pair-end : tie.Need-part-pair-end
 part-pair-end c = omega (arith, whole (c .before .before .before))
@@ -24,18 +27,23 @@ cast-result : tie.Need-cast-result
 cast-result c =
     let a = c .before .before .before .before .before .before .before .before .args in
     let known = c .before .before .before .before .before .before .before .shared-slice-known .given in
-    let h = pair-fits (now (a .job)) (a .p .0 + 3) (a .p .0 + 3 + a .p .2 - (a .p .0 + 3)) (omega arith) (λ i. omega (arith, known i)) in
+    let h = pair-fits (now (a .job)) (a .p .0 + 3) (a .p .0 + 3 + a .p .2 - (a .p .0 + 3)) (omega arith)
+    (λ i. omega (arith, known i)) in
     record { fits = omega (arith, c .pair .ensures) }
 
 returns : tie.Need-returns
 returns c =
     let a = c .before .before .before .before .before .before .before .before .args in
-    c .pair .ensures ∙ count-there (now (a .job)) (a .p .0) (a .p .1) (a .p .2) (a .other) (there (c .before .before .before .before .before))
+    c .pair .ensures ∙ count-there (now (a .job)) (a .p .0) (a .p .1) (a .p .2) (a .other)
+    (there (c .before .before .before .before .before))
 
 returns-2 : tie.Need-returns-2
 returns-2 c =
     let a = c .before .before .before .args in
-    count-absent (now (a .job)) (a .p .0) (a .p .1) (a .p .2) (a .other) (sym (c .before .stands .ensures) ∙ c .if1 .left)
+    count-absent (now (a .job)) (a .p .0) (a .p .1) (a .p .2) (a .other)
+    (sym (c .before .stands .ensures) ∙ c .if1 .left)
 
 pub count-spec : {M : Type 1} → statement M
-count-spec = tie.close (tie.spec (λ c κs. search needs) (λ c. search needs) (λ c. search needs) (λ c. search needs) (λ c. search needs) (λ c. search needs) part-pair-end (λ c κs. search needs) cast-result returns returns-2)
+count-spec =
+    tie.close (tie.spec (λ c κs. search needs) (λ c. search needs) (λ c. search needs) (λ c. search needs)
+    (λ c. search needs) (λ c. search needs) part-pair-end (λ c κs. search needs) cast-result returns returns-2)

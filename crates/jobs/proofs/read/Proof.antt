@@ -20,13 +20,17 @@ four : (c : tie.Else1) → 4 ≤ length (now (c .before .before .before .args .j
 four c = within (now (c .before .before .before .args .job)) 0 1 1 (omega arith) (there c)
 
 returns : tie.Need-returns
-returns c = no-curve (now (c .before .before .before .args .job)) (sym (c .before .stands .ensures) ∙ not-true _ (c .if1 .taken))
+returns c =
+    no-curve (now (c .before .before .before .args .job))
+    (sym (c .before .stands .ensures) ∙ not-true _ (c .if1 .taken))
 
 next-requires : tie.Need-next-requires
 next-requires c κs = (four c, omega arith)
 
 places : (c : tie.After-next5) → let n = c .before in
-    Places (now (n .before .before .before .before .before .before .before .args .job)) (n .before .before .before .next .result) (n .before .before .next2 .result) (n .before .next3 .result) (n .next4 .result) (c .next5 .result)
+    Places (now (n .before .before .before .before .before .before .before .args .job))
+    (n .before .before .before .next .result) (n .before .before .next2 .result) (n .before .next3 .result)
+    (n .next4 .result) (c .next5 .result)
 places c =
     let n = c .before in
     record {
@@ -47,14 +51,21 @@ part-byte-end c = omega (arith, four (c .before .before .before .before .before 
 
 options-requires : tie.Need-options-requires
 options-requires c κs =
-    let n = c .before .before .before .before in
-    (four (n .before .before .before .before), n .before .before .before .next .ensures .0, n .before .before .next2 .ensures .0, n .before .next3 .ensures .0, n .next4 .ensures .0)
+    let n = c .before .before .before .before in (
+      four (n .before .before .before .before),
+      n .before .before .before .next .ensures .0,
+      n .before .before .next2 .ensures .0,
+      n .before .next3 .ensures .0,
+      n .next4 .ensures .0,
+    )
 
 returns-3 : tie.Need-returns-3
-returns-3 c = whole _ _ _ _ _ _ (places (c .before .before .before .before)) (c .before .before .before .if2 .left) _ _ (c .before .byte .ensures) (c .options .ensures)
+returns-3 c =
+    whole _ _ _ _ _ _ (places (c .before .before .before .before)) (c .before .before .before .if2 .left) _ _
+    (c .before .byte .ensures) (c .options .ensures)
 
 pub read-spec : {M : Type 1} → statement M
 read-spec =
-    tie.close (tie.spec (λ c κs. search needs) returns next-requires (λ c κs. search needs) (λ c κs. search needs) (λ c κs. search needs)
-    (λ c κs. search needs) returns-2 (λ c. search needs) (λ c. search needs) part-byte-end (λ c κs. search needs) (λ c. search needs) options-requires
-    returns-3)
+    tie.close (tie.spec (λ c κs. search needs) returns next-requires (λ c κs. search needs) (λ c κs. search needs)
+    (λ c κs. search needs) (λ c κs. search needs) returns-2 (λ c. search needs) (λ c. search needs) part-byte-end
+    (λ c κs. search needs) (λ c. search needs) options-requires returns-3)

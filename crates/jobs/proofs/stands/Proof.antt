@@ -12,7 +12,9 @@ use Rattle.jobs.proofs.stands.Statement.{statement}
 use Rattle.jobs.proofs.stands.Tie as tie
 
 returns : tie.Need-returns
-returns c = let a = c .before .before .before .args in cut-short (now (a .job)) (a .p .0) (a .p .1) (a .p .2) (omega arith)
+returns c =
+    let a = c .before .before .before .args in
+    cut-short (now (a .job)) (a .p .0) (a .p .1) (a .p .2) (omega arith)
 
 returns-2 : tie.Need-returns-2
 returns-2 c =
@@ -22,5 +24,5 @@ returns-2 c =
 
 pub stands-spec : {M : Type 1} → statement M
 stands-spec =
-    tie.close (tie.spec (λ c. search needs) (λ c. search needs) returns (λ c. search needs) (λ c. search needs) (λ c. search needs)
-    (λ c. search needs) (λ c. search needs) (λ c. search needs) (λ c κs. search needs) returns-2)
+    tie.close (tie.spec (λ c. search needs) (λ c. search needs) returns (λ c. search needs) (λ c. search needs)
+    (λ c. search needs) (λ c. search needs) (λ c. search needs) (λ c. search needs) (λ c κs. search needs) returns-2)

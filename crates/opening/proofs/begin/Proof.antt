@@ -7,10 +7,14 @@ use Rattle.opening.proofs.begin.Statement.{statement}
 use Rattle.opening.proofs.begin.Tie as tie
 
 returns : tie.Need-returns
-returns c = c .start .ensures ∙ ap beginsBy (ap readTold (sym (c .before .before .j .given .1)) ∙ c .before .before .before .before .read .ensures)
+returns c =
+    let read = ap readTold (sym (c .before .before .j .given .1)) ∙ c .before .before .before .before .read .ensures in
+    c .start .ensures ∙ ap beginsBy read
 
 returns-2 : tie.Need-returns-2
 returns-2 c = ap beginsBy (ap readTold (sym (c .enum-told .given .1)) ∙ c .before .before .read .ensures)
 
 pub begin-spec : {M : Type 1} → statement M
-begin-spec = tie.close (tie.spec (λ c κs. search needs) (λ c. search needs) (λ c κs. search needs) (λ c. search needs) returns returns-2)
+begin-spec =
+    tie.close (tie.spec (λ c κs. search needs) (λ c. search needs) (λ c κs. search needs) (λ c. search needs) returns
+    returns-2)

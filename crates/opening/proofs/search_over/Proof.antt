@@ -1,13 +1,45 @@
 -- `opening::search_over` meets its contract. Assumes nothing.
+use mathlib.Core.Path.{_≡_, sym, ap, _∙_}
+use lib.Ieee.{Float}
 use borrow.Author.Needs.{needs}
+use Rattle.floats.specs.Arithmetic.{0ᶠ}
+use Rattle.rules.specs.declared.Options.{Options}
+use Rattle.rules.specs.Parameters.{setupOf, startRows}
+use Rattle.curves.specs.declared.Curve.{Curve}
+use Rattle.curves.specs.Curves.{valueOf, slopeOf}
+use Rattle.hagerzhang.specs.declared.Started.{Started}
+use Rattle.hagerzhang.specs.Machine.{fresh, startedTold, StartSaid}
+use Rattle.opening.specs.Start.{overCurve}
+use Rattle.opening.proofs.Refusals.{on, on-rows}
 use Rattle.opening.proofs.search_over.Statement.{statement}
 use Rattle.opening.proofs.search_over.Tie as tie
 
+-- what the start said, with the curve beside it
+beside : (c : Curve) (o : Options) (f0 s0 : Float) (r q : Started) → f0 ≡ valueOf c 0ᶠ → s0 ≡ slopeOf c 0ᶠ
+    → StartSaid o f0 s0 r → r ≡ q → on c (startedTold q) ≡ overCurve c o
+beside c o f0 s0 r q e e' said same =
+    let a = valueOf c 0ᶠ in
+    let b = slopeOf c 0ᶠ in
+    ap (λ (k : Started). on c (startedTold k)) (sym same) ∙ ap (on c) said
+    ∙ rw (e, e') (on-rows c (startRows o a b) (fresh (setupOf o a b)))
+
 returns : tie.Need-returns
-returns c = rw (← c .before .before .before .before .slope .ensures, ← c .before .before .before .before .before .value .ensures, ← c .before .before .before .start .ensures .0, c .before .t .given .1)
+unfolding on
+returns c =
+    let s = c .before .before .before in
+    let a = s .before .before .before .args in
+    beside (a .c) (a .o) _ _ _ _ (s .before .before .value .ensures) (s .before .slope .ensures) (s .start .ensures .0)
+    (c .before .t .given .1)
 
 returns-2 : tie.Need-returns-2
-returns-2 c = rw (← c .before .before .before .before .slope .ensures, ← c .before .before .before .before .before .value .ensures, ← c .before .before .before .start .ensures .0, c .before .k .given .1)
+unfolding on
+returns-2 c =
+    let s = c .before .before .before in
+    let a = s .before .before .before .args in
+    beside (a .c) (a .o) _ _ _ _ (s .before .before .value .ensures) (s .before .slope .ensures) (s .start .ensures .0)
+    (c .before .k .given .1)
 
 pub search-over-spec : {M : Type 1} → statement M
-search-over-spec = tie.close (tie.spec (λ c κs. search needs) (λ c κs. search needs) (λ c κs. search needs) (λ c. search needs) (λ c. search needs) returns returns-2)
+search-over-spec =
+    tie.close (tie.spec (λ c κs. search needs) (λ c κs. search needs) (λ c κs. search needs) (λ c. search needs)
+    (λ c. search needs) returns returns-2)

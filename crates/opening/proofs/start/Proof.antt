@@ -5,25 +5,24 @@ use borrow.Author.Needs.{needs}
 use borrow.Author.Tests.{not-true, not-false}
 use Rattle.rules.specs.Parameters.{paramsFinite}
 use Rattle.curves.specs.Told.{curveTold}
-use Rattle.opening.proofs.Refusals.{by-params, not-finite, found-curve, unknown-curve}
+use Rattle.opening.proofs.Refusals.{not-finite, found-curve, unknown-curve}
 use Rattle.opening.proofs.start.Statement.{statement}
 use Rattle.opening.proofs.start.Tie as tie
 
 returns : tie.Need-returns
 returns c =
     let j = c .before .before .before .args .j in
-    not-finite j (sym (by-params (j .options)) ∙ sym (c .before .supplied-finite .ensures) ∙ not-true _ (c .if1 .taken))
+    not-finite j (sym (c .before .params-finite .ensures) ∙ not-true _ (c .if1 .taken))
 
 fine : (c : tie.Else1) → paramsFinite (c .before .before .before .args .j .options .params) ≡ true
-fine c =
-    let j = c .before .before .before .args .j in
-    sym (by-params (j .options)) ∙ sym (c .before .supplied-finite .ensures) ∙ not-false _ (c .if1 .left)
+fine c = sym (c .before .params-finite .ensures) ∙ not-false _ (c .if1 .left)
 
 returns-2 : tie.Need-returns-2
 returns-2 c =
     let j = c .before .before .before .before .before .before .before .before .args .j in
     let n = c .before .before .before .before in
-    c .search-over .ensures ∙ found-curve j (fine (n .before)) _ (ap curveTold (sym (c .before .before .c .given .1)) ∙ n .numbered .ensures)
+    let known = ap curveTold (sym (c .before .before .c .given .1)) ∙ n .numbered .ensures in
+    c .search-over .ensures ∙ found-curve j (fine (n .before)) _ known
 
 returns-3 : tie.Need-returns-3
 returns-3 c =
@@ -33,5 +32,5 @@ returns-3 c =
 
 pub start-spec : {M : Type 1} → statement M
 start-spec =
-    tie.close (tie.spec (λ c κs. search needs) returns (λ c κs. search needs) (λ c. search needs) (λ c κs. search needs) (λ c. search needs) returns-2
-    returns-3)
+    tie.close (tie.spec (λ c κs. search needs) returns (λ c κs. search needs) (λ c. search needs) (λ c κs. search needs)
+    (λ c. search needs) returns-2 returns-3)

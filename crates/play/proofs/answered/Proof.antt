@@ -8,7 +8,12 @@ use Rattle.play.proofs.answered.Tie as tie
 
 returns : tie.Need-returns
 unfolding answeredBy
-returns c = rw (c .before .before .before .before .o .given .1, ← c .before .slope .ensures, ← c .before .before .value .ensures) (ap On (c .answer .ensures .0))
+returns c =
+    rw (
+      c .before .before .before .before .o .given .1,
+      ← c .before .slope .ensures,
+      ← c .before .before .value .ensures,
+    ) (ap On (c .answer .ensures .0))
 
 returns-2 : tie.Need-returns-2
 unfolding answeredBy
@@ -24,5 +29,5 @@ returns-4 c = rw (c .enum-told3 .given .1)
 
 pub answered-spec : {M : Type 1} → statement M
 answered-spec =
-    tie.close (tie.spec (λ c. search needs) (λ c κs. search needs) (λ c κs. search needs) (λ c κs. search needs) (λ c. search needs)
-    (λ c. search needs) (λ c. search needs) returns returns-2 returns-3 returns-4)
+    tie.close (tie.spec (λ c. search needs) (λ c κs. search needs) (λ c κs. search needs) (λ c κs. search needs)
+    (λ c. search needs) (λ c. search needs) (λ c. search needs) returns returns-2 returns-3 returns-4)

@@ -1,0 +1,184 @@
+-- 01's sample job: "Job `01 0001 01 02 0010 0000000000000000 4010000000000000` gives exactly" 01's four lines
+-- (`sample`). Worked out in parts: what its bytes say, that no row refuses it, what its search tells, and the lines.
+-- Assumes nothing.
+use mathlib.Core.Path.{_≡_, refl, ap, ap₂, _∙_}
+use mathlib.Core.Bool.{true}
+use mathlib.Core.List.{List, [], _∷_, _++_, append-nil}
+use Prim.Native.Nat.{ℕ, _+_}
+use native.Mathlib.Omega.{arith}
+use lib.Ieee.{Float, binary64, ofBits, ofInt, add, sub, mul, neg, le, lt}
+use Rattle.numbers.specs.Results.{value}
+use Rattle.outcomes.specs.Outcomes.{wolfe, stop, Told, asks, ends}
+use Rattle.outcomes.specs.Asking.{Search, keeping, question}
+use Rattle.outcomes.proofs.Refusals.{Passed, and, all, value-given}
+use Rattle.rules.specs.declared.Point.{Point}
+use Rattle.rules.specs.Parameters.{defaultOptions}
+use Rattle.rules.specs.Rules.{
+  point,
+  bracket,
+  answerFinite,
+  Report,
+  noneYet,
+  iterationsIn,
+  bestOver,
+  judgedOf,
+  decided,
+  verdict,
+  rounds,
+  askStart,
+  askHigh,
+  search,
+}
+use Rattle.curves.specs.declared.Curve.{Curve}
+use Rattle.curves.specs.Curves.{table, valueOf, slopeOf}
+use Rattle.text.specs.Text.{bytes}
+use Rattle.lines.proofs.Samples.{samples}
+use Rattle.jobs.specs.declared.Job.{Job}
+use Rattle.jobs.specs.Format.{Field, sizeOf, Holds, nothing, field, bodyOf, optionsOf, decoded, meansOf}
+use Rattle.jobs.specs.Reader.{jobOf}
+use Rattle.jobs.proofs.BothWays.{job-read}
+use Rattle.opening.specs.Start.{curveOf, setupFor, jobRows}
+use Rattle.play.specs.Telling.{Said, telling, textOf}
+use Rattle.play.specs.Output.{searchText, alone, jobText, outputOf}
+
+-- ---- what the bytes say: curve 1, and the bounds 0 and 4
+
+abbrev pub job : List ℕ
+job =
+    1 ∷ 0 ∷ 1 ∷ 1 ∷
+    2 ∷ 0 ∷ 16 ∷ 0 ∷ 0 ∷ 0 ∷ 0 ∷ 0 ∷ 0 ∷ 0 ∷ 0 ∷ 64 ∷ 16 ∷ 0 ∷ 0 ∷ 0 ∷ 0 ∷ 0 ∷ 0 ∷ []
+
+abbrev curve : Field
+curve = record { tag = 1; body = 1 ∷ [] }
+
+abbrev bounds : Field
+bounds = record { tag = 2; body = 0 ∷ 0 ∷ 0 ∷ 0 ∷ 0 ∷ 0 ∷ 0 ∷ 0 ∷ 64 ∷ 16 ∷ 0 ∷ 0 ∷ 0 ∷ 0 ∷ 0 ∷ 0 ∷ [] }
+
+holds : Holds 0 (curve ∷ bounds ∷ []) job
+unfolding sizeOf
+holds = field {t = 0} {f = curve} (omega arith) refl (field {t = 1} {f = bounds} (omega arith) refl nothing)
+
+abbrev zero : Float
+zero = ofBits binary64 0
+
+abbrev one : Float
+one = ofBits binary64 0x3ff0_0000_0000_0000
+
+abbrev four : Float
+four = ofBits binary64 0x4010_0000_0000_0000
+
+abbrev j : Job
+j = record {
+  curve = 1;
+  options = record {
+    params = record {
+      delta = defaultOptions .params .delta;
+      sigma = defaultOptions .params .sigma;
+      epsilon = defaultOptions .params .epsilon;
+      theta = defaultOptions .params .theta;
+      gamma = defaultOptions .params .gamma;
+      eta = defaultOptions .params .eta;
+      min = zero;
+      max = four;
+      start = defaultOptions .params .start;
+    };
+    budget = defaultOptions .budget;
+    limit = defaultOptions .limit;
+  };
+}
+
+says : meansOf (curve ∷ bounds ∷ []) ≡ value j
+unfolding bodyOf optionsOf decoded
+says = refl
+
+is-job : jobOf job ≡ value j
+is-job = job-read job (curve ∷ bounds ∷ []) j holds says
+
+-- ---- no row refuses it
+no-row : Passed (jobRows j)
+unfolding table add mul ofInt ofBits le lt
+no-row = and refl (and refl (and refl (and refl all)))
+
+-- ---- what its search tells. Of an answer: cost and slope of the curve there, and that they are finite
+asked : (c : Curve) (e : ℕ) (k : Report) (x : Float) (then : Float → Float → Search Report) (f g : Float)
+    → valueOf c x ≡ f → slopeOf c x ≡ g → answerFinite f g ≡ true
+    → telling c e (question answerFinite (keeping k) k x then)
+    ≡ record { told = asks x; evaluations = e; iterations = iterationsIn k } ∷ telling c (e + 1) (then f g)
+unfolding telling
+asked c e k x then f g cost slope fine = rw (cost, slope, fine)
+
+abbrev six : Float
+six = ofBits binary64 0x4018_0000_0000_0000
+
+abbrev nine : Float
+nine = ofBits binary64 0x4022_0000_0000_0000
+
+abbrev -two : Float
+-two = ofBits binary64 0xc000_0000_0000_0000
+
+-- a, b and c
+abbrev low : Point
+low = point zero one -two
+
+abbrev high : Point
+high = point four nine six
+
+abbrev start : Point
+start = point one zero zero
+
+abbrev over : Curve
+over = curveOf j
+
+abbrev says-at : Told → ℕ → Said
+says-at t e = record { told = t; evaluations = e; iterations = 0 }
+
+at-low : telling over 0 (search (setupFor j)) ≡ says-at (asks zero) 0 ∷ telling over 1 (askHigh (setupFor j) low)
+unfolding search table add mul ofInt ofBits
+at-low = asked over 0 noneYet zero _ one -two refl refl refl
+
+at-high : telling over 1 (askHigh (setupFor j) low)
+    ≡ says-at (asks four) 1 ∷ telling over 2 (askStart (setupFor j) (bracket low high))
+unfolding askHigh table add mul ofInt ofBits
+at-high = asked over 1 noneYet four _ nine six refl refl refl
+
+at-start : telling over 2 (askStart (setupFor j) (bracket low high))
+    ≡ says-at (asks one) 2 ∷ telling over 3 (rounds (setupFor j) 100 (bracket low high) start 0)
+unfolding askStart table add mul ofInt ofBits
+at-start = asked over 2 noneYet one _ zero zero refl refl refl
+
+at-end : telling over 3 (rounds (setupFor j) 100 (bracket low high) start 0) ≡ says-at (ends (stop wolfe one)) 3 ∷ []
+unfolding telling rounds verdict decided judgedOf bestOver table add sub mul neg le lt ofInt ofBits
+at-end = refl
+
+abbrev fourSaid : List Said
+fourSaid =
+    says-at (asks zero) 0 ∷ says-at (asks four) 1 ∷ says-at (asks one) 2 ∷ says-at (ends (stop wolfe one)) 3 ∷ []
+
+tells : telling over 0 (search (setupFor j)) ≡ fourSaid
+tells =
+    at-low
+    ∙ ap (λ (l : List Said). says-at (asks zero) 0 ∷ l)
+    (at-high
+    ∙ ap (λ (l : List Said). says-at (asks four) 1 ∷ l)
+    (at-start
+    ∙ ap (λ (l : List Said). says-at (asks one) 2 ∷ l) at-end))
+
+-- ---- the lines, one after the other
+abbrev pub text : List ℕ
+text =
+    bytes "ASK 0000000000000000\n"
+    ++ bytes "ASK 4010000000000000\n"
+    ++ bytes "ASK 3FF0000000000000\n"
+    ++ bytes "STOP wolfe 3FF0000000000000 evaluations 3 iterations 0\n"
+
+lines : textOf fourSaid ≡ text
+unfolding textOf
+lines =
+    ap₂ _++_ (samples .0)
+    (ap₂ _++_ (samples .1)
+    (ap₂ _++_ (samples .2)
+    (append-nil _ ∙ samples .3)))
+
+pub sample : outputOf job ≡ text
+sample =
+    ap jobText is-job ∙ ap alone (value-given (jobRows j) (searchText j) no-row) ∙ ap textOf tells ∙ lines
