@@ -12,7 +12,22 @@ use lib.Ieee.{Float, isNan}
 use Rattle.floats.proofs.Order.{finite→real}
 use Rattle.outcomes.specs.Outcomes.{Told}
 use Rattle.outcomes.specs.Asking.{
-  Search as Rest, ask, end, Reply, respond, shown, reported, awaits, isOver as over, onceTold, outcomes, after, accepted, reached, played, tallied
+  Search as Rest,
+  ask,
+  end,
+  Reply,
+  respond,
+  shown,
+  reported,
+  awaits,
+  isOver as over,
+  onceTold,
+  outcomes,
+  after,
+  accepted,
+  reached,
+  played,
+  tallied,
 }
 use Rattle.outcomes.proofs.Machines as machines
 use Rattle.outcomes.proofs.Refusals.{Passed}
@@ -31,7 +46,19 @@ use Rattle.hagerzhang.specs.Meaning.{report, isOver, dueTold, meaning, meant}
 use Rattle.hagerzhang.proofs.Bridge.{follows, starts-whole}
 use Rattle.hagerzhang.proofs.Answering.{setup-kept, one-more-if-finite, reports, awaited}
 use Rattle.demands.specs.Runs.{
-  next, says, reachedBy, toldBy, toldAt, one-more, isAsking, note, noteBy, askedFrom, askedBy, askedAt, finishedBy
+  next,
+  says,
+  reachedBy,
+  toldBy,
+  toldAt,
+  one-more,
+  isAsking,
+  note,
+  noteBy,
+  askedFrom,
+  askedBy,
+  askedAt,
+  finishedBy,
 }
 
 -- ---- lists
@@ -170,8 +197,12 @@ module _ (o : Options) (f0 s0 : Float) (ok : Passed (startRows o f0 s0)) where
       let c' = next c (y .0) (y .1) in
       let more = cond (ltb (progress (report c)) (progress (report c'))) [] (noteBy c y asked) in
       let same : more ≡ kept (meant c) y asked = rw (
-        report-is c, report-is c', leaves c v (y .0) (y .1), machines.report-rests (respond (meant c) (y .0) (y .1)),
-        due-is c, ← noted-awaits (meant c) y asked
+        report-is c,
+        report-is c',
+        leaves c v (y .0) (y .1),
+        machines.report-rests (respond (meant c) (y .0) (y .1)),
+        due-is c,
+        ← noted-awaits (meant c) y asked,
       ) in
       asked-is more c' (fit-next c v (y .0) (y .1)) ys
       ∙ rw (same, leaves c v (y .0) (y .1)) (under-way-rests (kept (meant c) y asked) (respond (meant c) (y .0) (y .1)) ys)

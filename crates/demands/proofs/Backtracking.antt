@@ -14,7 +14,21 @@ use borrow.Author.Tests.{leb-true, not-false}
 use Rattle.numbers.specs.Results.{value}
 use Rattle.outcomes.specs.Outcomes.{met, stop, limit, refusal, answerNotFinite, stepNotFinite}
 use Rattle.outcomes.specs.Asking.{
-  Search, end, Over as Ended, over, Reply, respond, shown, reported, isOver, onceTold, outcomes, after, accepted, notFinite, tallied
+  Search,
+  end,
+  Over as Ended,
+  over,
+  Reply,
+  respond,
+  shown,
+  reported,
+  isOver,
+  onceTold,
+  outcomes,
+  after,
+  accepted,
+  notFinite,
+  tallied,
 }
 use Rattle.outcomes.specs.Counters.{counted}
 use Rattle.outcomes.proofs.Ends.{Ends, at-end, ends-if, ends-within, question-ends, ends-over, ends-accepted, non-finite-once}
@@ -239,14 +253,14 @@ module _ (s : Setup) (ok : Passed (startRows s)) where
   of-fresh = record {
     first-ask = sym (asked-shown s (s .limit) 0 0 (s .alpha));
     outcomes-are-rules = λ ys.
-    machines.plays meant next says Fit fit-next leaves tells b refl ys ∙ ap (λ (r : Search ℕ). outcomes r ys) (starts-whole s);
+        machines.plays meant next says Fit fit-next leaves tells b refl ys ∙ ap (λ (r : Search ℕ). outcomes r ys) (starts-whole s);
     iterations-are-rules = iterations-are;
     iterations-counted = λ ys.
-    rw (tallied-is test ys)
-    (iterations-are ys ∙ trials-counted s (s .limit) 0 0 (s .alpha) ys ∙ one-fewer s (accepted test (search s) ys));
+        rw (tallied-is test ys)
+        (iterations-are ys ∙ trials-counted s (s .limit) 0 0 (s .alpha) ys ∙ one-fewer s (accepted test (search s) ys));
     search-ends = λ ys h.
-    let c = reachedBy b ys in
-    sym (over-is (c .setup) (c .iterations .0) (c .stage)) ∙ reaches isOver machines.over-rests ys ∙ ends-over within ys h;
+        let c = reachedBy b ys in
+        sym (over-is (c .setup) (c .iterations .0) (c .stage)) ∙ reaches isOver machines.over-rests ys ∙ ends-over within ys h;
     evaluations-counted = evaluations-are;
     evaluations-bounded = few-finite;
     non-finite-once = λ ys. rw (tallied-is (λ f g. not (test f g)) ys) (non-finite-once within ys);

@@ -19,8 +19,21 @@ use Rattle.rules.specs.declared.Setup.{Setup}
 use Rattle.rules.specs.Parameters.{setupOf, startRows}
 use Rattle.rules.specs.Rules.{answerFinite, Last, Report, noneYet, last, iterationsIn, search}
 use Rattle.rules.specs.Iterations.{
-  Premise, Bracketed, Within, Finished, Moves, under-way, Ends, verdict, at-limit, not-finite, trial-not-finite,
-  U3-not-finite, spent, not-between, already
+  Premise,
+  Bracketed,
+  Within,
+  Finished,
+  Moves,
+  under-way,
+  Ends,
+  verdict,
+  at-limit,
+  not-finite,
+  trial-not-finite,
+  U3-not-finite,
+  spent,
+  not-between,
+  already,
 }
 use Rattle.rules.proofs.Ranges.{level-finite, min-finite, max-finite, start-finite, most-answers}
 use Rattle.rules.proofs.Bounds.{search-within}
@@ -32,7 +45,16 @@ use Rattle.hagerzhang.specs.Meaning.{report, isOver}
 use Rattle.demands.specs.Runs.{reachedBy, toldAt, one-more, finiteBy, notFiniteBy, askedBy, askedAt, finishedBy}
 use Rattle.demands.specs.Demand3.{AtLimit, Demand3}
 use Rattle.demands.proofs.Along.{
-  after-one-more, report-at, report-next, over-at, told-at, asked-by, asked-at, finished-at, tallied-is, evaluations-are
+  after-one-more,
+  report-at,
+  report-next,
+  over-at,
+  told-at,
+  asked-by,
+  asked-at,
+  finished-at,
+  tallied-is,
+  evaluations-are,
 }
 
 -- ---- an ending by the limit is at the N-th iteration
@@ -94,27 +116,27 @@ module _ (o : Options) (f0 s0 : Float) (ok : Passed (startRows o f0 s0)) where
   of-fresh : Demand3 o f0 s0 t
   of-fresh = record {
     bracket-stays = λ ya yb yc ys premise p e.
-    rules.bracket-stays o f0 s0 ok ya yb yc premise ys p (sym (report-at o f0 s0 ok (ya ∷ yb ∷ yc ∷ ys)) ∙ e);
+        rules.bracket-stays o f0 s0 ok ya yb yc premise ys p (sym (report-at o f0 s0 ok (ya ∷ yb ∷ yc ∷ ys)) ∙ e);
     bracket-narrows = λ ya yb yc ys premise y p q e e' n.
-    let given = ya ∷ yb ∷ yc ∷ ys in
-    rules.bracket-narrows o f0 s0 ok ya yb yc premise ys y p q (sym (report-at o f0 s0 ok given) ∙ e) (sym (report-next o f0 s0 ok given y) ∙ e') n;
+        let given = ya ∷ yb ∷ yc ∷ ys in
+        rules.bracket-narrows o f0 s0 ok ya yb yc premise ys y p q (sym (report-at o f0 s0 ok given) ∙ e) (sym (report-next o f0 s0 ok given y) ∙ e') n;
     each-iteration = λ ys y p q e e' n.
-    rw (asked-at o f0 s0 ok ys y)
-    (rules.each-iteration o f0 s0 ok ys y p q (sym (report-at o f0 s0 ok ys) ∙ e) (sym (report-next o f0 s0 ok ys y) ∙ e') n);
+        rw (asked-at o f0 s0 ok ys y)
+        (rules.each-iteration o f0 s0 ok ys y p q (sym (report-at o f0 s0 ok ys) ∙ e) (sym (report-next o f0 s0 ok ys y) ∙ e') n);
     iteration-bounded = λ ys. rw (asked-by o f0 s0 ok ys) (rules.iteration-bounded o f0 s0 ok ys);
     search-ends = λ ys h. over-at o f0 s0 ok ys ∙ ends-over within ys h;
     evaluations-counted = λ ys.
-    let same = tallied-is o f0 s0 ok answerFinite ys in
-    let few = few-finite ys in
-    evaluations-are o f0 s0 ok ys (omega arith) ∙ sym same;
+        let same = tallied-is o f0 s0 ok answerFinite ys in
+        let few = few-finite ys in
+        evaluations-are o f0 s0 ok ys (omega arith) ∙ sym same;
     evaluations-bounded = few-finite;
     each-answer = λ ys y.
-    rw (asked-at o f0 s0 ok ys y, report-at o f0 s0 ok ys, report-next o f0 s0 ok ys y) (rules.each-answer o f0 s0 ok ys y);
+        rw (asked-at o f0 s0 ok ys y, report-at o f0 s0 ok ys, report-next o f0 s0 ok ys y) (rules.each-answer o f0 s0 ok ys y);
     iterations-counted = λ ys.
-    ap iterationsIn (report-at o f0 s0 ok ys) ∙ rules.iterations-counted o f0 s0 ok ys ∙ sym (finished-at o f0 s0 ok ys);
+        ap iterationsIn (report-at o f0 s0 ok ys) ∙ rules.iterations-counted o f0 s0 ok ys ∙ sym (finished-at o f0 s0 ok ys);
     iterations-bounded = λ ys. few-iterations ys (report (reachedBy b ys)) refl;
     at-limit = λ ys y x e.
-    rw (report-next o f0 s0 ok ys y) (ended ys y x (respond (after (search s) ys) (y .0) (y .1)) refl (sym (told-at o f0 s0 ok ys y) ∙ e));
+        rw (report-next o f0 s0 ok ys y) (ended ys y x (respond (after (search s) ys) (y .0) (y .1)) refl (sym (told-at o f0 s0 ok ys y) ∙ e));
     non-finite-once = λ ys. rw (tallied-is o f0 s0 ok _ ys) (non-finite-once within ys);
   }
 

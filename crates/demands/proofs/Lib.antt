@@ -1,7 +1,11 @@
 pub mod Along
 pub mod Answered
 pub mod Refused
+pub mod Demand1
 pub mod Demand2
 pub mod Demand3
+pub mod Untouched
 pub mod Backtracking
 pub mod Tried
+pub mod Trials
+pub mod Determined

@@ -58,16 +58,16 @@ module _ (o : Options) (f0 s0 : Float) (ok : Passed (startRows o f0 s0)) where
   of-fresh : Refused o f0 s0 (fresh s)
   of-fresh = record {
     refused = λ ys y n e.
-    rw (report-next o f0 s0 ok ys y, asked-by o f0 s0 ok (one-more ys y))
-    (ended ys y n (respond (after (search s) ys) (y .0) (y .1)) refl (sym (told-at o f0 s0 ok ys y) ∙ e));
+        rw (report-next o f0 s0 ok ys y, asked-by o f0 s0 ok (one-more ys y))
+        (ended ys y n (respond (after (search s) ys) (y .0) (y .1)) refl (sym (told-at o f0 s0 ok ys y) ∙ e));
     spent = λ ys p h k e stands all.
-    over-at o f0 s0 ok ys
-    ∙ rules.spent-over o f0 s0 ok ys p h k (sym (report-at o f0 s0 ok ys) ∙ e) (rw (asked-by o f0 s0 ok ys) at stands) (rw (asked-by o f0 s0 ok ys) at all);
+        over-at o f0 s0 ok ys
+        ∙ rules.spent-over o f0 s0 ok ys p h k (sym (report-at o f0 s0 ok ys) ∙ e) (rw (asked-by o f0 s0 ok ys) at stands) (rw (asked-by o f0 s0 ok ys) at all);
     asks-finite = λ ys y x e. rules.asks-finite o f0 s0 ok (one-more ys y) x (shown-next ys y ∙ sym (told-at o f0 s0 ok ys y) ∙ e);
     asks-rightly = λ ys y x e p h.
-    rw (asked-by o f0 s0 ok (one-more ys y))
-    (rules.asks o f0 s0 ok (one-more ys y) p x (sym (report-at o f0 s0 ok (one-more ys y)) ∙ h)
-    (shown-next ys y ∙ sym (told-at o f0 s0 ok ys y) ∙ e));
+        rw (asked-by o f0 s0 ok (one-more ys y))
+        (rules.asks o f0 s0 ok (one-more ys y) p x (sym (report-at o f0 s0 ok (one-more ys y)) ∙ h)
+        (shown-next ys y ∙ sym (told-at o f0 s0 ok ys y) ∙ e));
   }
 
 pub refused-rightly : (o : Options) (f0 s0 : Float) (t : Step) → startOf o f0 s0 ≡ value t → Refused o f0 s0 t

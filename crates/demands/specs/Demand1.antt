@@ -18,6 +18,8 @@ use Rattle.vectors.specs.Vectors.{dotRows, dotOf, pointRows, pointOf}
 use Rattle.vectors.specs.Told.{pointTold, PointSaid}
 use Rattle.conditions.specs.declared.Condition.{Condition}
 use Rattle.conditions.specs.Conditions.{conditionRows, checkedOf}
+use Rattle.curves.specs.declared.Curve.{Curve}
+use Rattle.curves.specs.Curves.{valueOf, slopeOf, curveRows, numberedOf}
 use Rattle.rules.specs.declared.Point.{Point}
 use Rattle.rules.specs.declared.Came.the-variants.{On}
 use Rattle.rules.specs.declared.Options.{Options}
@@ -25,6 +27,10 @@ use Rattle.rules.specs.declared.Setup.{Setup}
 use Rattle.rules.specs.Parameters.{setupOf, startRows}
 use Rattle.rules.specs.Rules.{answerFinite, Last, Report, last}
 use Rattle.rules.specs.Iterations.{standing, had, Asks, Ends}
+use Rattle.jobs.specs.declared.Job.{Job}
+use Rattle.jobs.specs.Format.{Field, Holds, meansOf}
+use Rattle.jobs.specs.Reader.{jobOf}
+use Rattle.opening.specs.Start.{jobRows, beginOf}
 use Rattle.hagerzhang.specs.declared.Search.{Search}
 use Rattle.hagerzhang.specs.declared.Step.{Step}
 use Rattle.hagerzhang.specs.Machine.{startOf, AnswerSaid}
@@ -82,3 +88,30 @@ module _ (o : Options) (f0 s0 : Float) (t : Step) where
     pub asks-rightly : (ys : List Reply) (y : Reply) (x : Float) → toldAt b ys y ≡ asks x
         → (p : Last) → report (reachedBy b (one-more ys y)) ≡ last p → Asks s (p .bracket) (askedBy b (one-more ys y)) x
 
+-- ---- every function that can refuse
+
+pub record Demand1 : Type 0 where
+  -- 1, 2, 4, and "buffers untouched"
+  pub dot : (a b : List Float) → Table (refusedBy (dotOf a b)) (dotRows a b)
+  pub point : (x0 : List Float) (alpha : Float) (d : List Float) (m : ℕ)
+      → Table (refusedBy (pointOf x0 alpha d m)) (pointRows x0 alpha d m)
+  pub buffer : (x0 : List Float) (alpha : Float) (d held : List Float) (r : PointResult) (now : List Float) (n : ℕ)
+      → PointSaid x0 alpha d held r now → pointTold r now ≡ refused n → now ≡ held
+  -- 2, 3, 4, with no search
+  pub condition : (C : Condition) → Table (refusedBy (checkedOf C)) (conditionRows C)
+  pub curve : (n : ℕ) → Table (refusedBy (numberedOf n)) (curveRows n)
+  pub start : (o : Options) (f0 s0 : Float) → Table (refusedBy (startOf o f0 s0)) (startRows o f0 s0)
+  -- 9, by the format: bytes that hold a job are read as it, and bytes that hold none are refused
+  pub job-read : (bytes : List ℕ) (fs : List Field) (j : Job) → Holds 0 fs bytes → meansOf fs ≡ value j
+      → jobOf bytes ≡ value j
+  pub no-job : (bytes : List ℕ) → ((fs : List Field) (j : Job) → Holds 0 fs bytes → meansOf fs ≡ value j → ⊥)
+      → jobOf bytes ≡ refused 9
+  -- 9 before 2, 3, 4, over the whole job
+  pub job-nine : (bytes : List ℕ) → jobOf bytes ≡ refused 9 → beginOf bytes ≡ refused 9
+  pub job : (bytes : List ℕ) (j : Job) → jobOf bytes ≡ value j → Table (refusedBy (beginOf bytes)) (jobRows j)
+  -- 8 and 2, of any state; "If an answer from the curve is not finite, refusal 2 applies."
+  pub answer : (s : Search) (f g : Float) (r : Step) → AnswerSaid s f g r → Answered s f g r
+  pub curve-answer : (s : Search) (c : Curve) (x : Float) (r : Step) → AnswerSaid s (valueOf c x) (slopeOf c x) r
+      → isOver (s .stage) ≡ false → answerFinite (valueOf c x) (slopeOf c x) ≡ false → refusalIn (told (r .outcome)) ≡ some 2
+  -- 2, 5, 6, 7, of any search that `start` gave
+  pub search : (o : Options) (f0 s0 : Float) (t : Step) → startOf o f0 s0 ≡ value t → Refused o f0 s0 t

@@ -18,7 +18,14 @@ use Rattle.hagerzhang.specs.declared.Search.{Search}
 use Rattle.hagerzhang.specs.declared.Step.{Step}
 use Rattle.hagerzhang.specs.Meaning.{report, isOver}
 use Rattle.demands.specs.Runs.{
-  reachedBy, toldAt, one-more, finiteBy, notFiniteBy, askedBy, askedAt, finishedBy
+  reachedBy,
+  toldAt,
+  one-more,
+  finiteBy,
+  notFiniteBy,
+  askedBy,
+  askedAt,
+  finishedBy,
 }
 
 -- a search ended at its n-th iteration, with the best step x
@@ -69,7 +76,6 @@ module _ (o : Options) (f0 s0 : Float) (t : Step) where
     -- "The reported evaluations equal the finite answers accepted": no counter stops
     pub evaluations-counted : (ys : List Reply) → reachedBy b ys .evaluations .0 ≡ finiteBy b ys
     pub evaluations-bounded : (ys : List Reply) → finiteBy b ys ≤ 30030003
-
     -- 01 on the counts: each answer leaves the report as it was, or gives the first, or finishes an iteration, which is
     -- counted; so the iterations are those that the answers finished, N at most
     pub each-answer : (ys : List Reply) (y : Reply)

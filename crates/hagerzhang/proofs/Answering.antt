@@ -38,7 +38,19 @@ use Rattle.hagerzhang.specs.declared.Stage.the-variants.{Open, Over}
 use Rattle.hagerzhang.specs.declared.Search.{Search}
 use Rattle.hagerzhang.specs.declared.Step.{Step}
 use Rattle.hagerzhang.specs.Machine.{
-  attemptOf, probeOf, testedOf, madeBy, madeOf, wentOf, reactOf, keptAt, keptIn, dueAt, dueIn, takenOf, answerBy
+  attemptOf,
+  probeOf,
+  testedOf,
+  madeBy,
+  madeOf,
+  wentOf,
+  reactOf,
+  keptAt,
+  keptIn,
+  dueAt,
+  dueIn,
+  takenOf,
+  answerBy,
 }
 use Rattle.hagerzhang.specs.Meaning.{keptReport, dueTold, OfTheStep, not-refused, six, five, seven, meaning, meant}
 

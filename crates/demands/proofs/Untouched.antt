@@ -1,0 +1,15 @@
+-- 01, "How tight the contracts are": a program that "hands the state back untouched" would satisfy demand 3's bracket clause,
+-- "so that clause is read over 2's rules": where its bracket is one, it stays one, after any answers (`untouched-keeps`).
+-- Demand 2 shuts it out (`untouched-shut-out`, specs/Demand2.antt). Assumes nothing.
+use mathlib.Core.List.{List, [], _∷_}
+use lib.Ieee.{Float}
+use Rattle.outcomes.specs.Asking.{Reply, reached}
+use Rattle.hagerzhang.specs.declared.Search.{Search}
+use Rattle.hagerzhang.specs.Meaning.{report}
+use Rattle.rules.proofs.Demand3.{Holds}
+
+pub untouched-keeps : (L : Float) (s : Search) (ys : List Reply) → Holds L (report s)
+    → Holds L (report (reached (λ (t : Search) (f g : Float). t) s ys))
+unfolding reached
+untouched-keeps L s [] h = h
+untouched-keeps L s (y ∷ ys) h = untouched-keeps L s ys h
