@@ -170,6 +170,9 @@ module _ (o : Options) (f0 s0 : Float) (ok : Passed (startRows o f0 s0)) where
   pub report-at : (ys : List Reply) → report (reachedBy b ys) ≡ reported (after (search s) ys)
   report-at ys = report-is (reachedBy b ys) ∙ reaches reported machines.report-rests ys
 
+  pub awaited-at : (ys : List Reply) → dueTold (dueIn (reachedBy b ys)) ≡ awaits (after (search s) ys)
+  awaited-at ys = due-is (reachedBy b ys) ∙ reaches awaits awaits-rests ys
+
   pub over-at : (ys : List Reply) → isOver (reachedBy b ys .stage) ≡ over (after (search s) ys)
   over-at ys =
       let c = reachedBy b ys in
@@ -212,7 +215,7 @@ module _ (o : Options) (f0 s0 : Float) (ok : Passed (startRows o f0 s0)) where
 
   pub asked-at : (ys : List Reply) (y : Reply) → askedAt b ys y ≡ noted (after (search s) ys) y (under-way [] (search s) ys)
   asked-at ys y =
-      ap₂ (λ (d : Option Float) (asked : List Point). note d y asked) (due-is (reachedBy b ys) ∙ reaches awaits awaits-rests ys) (asked-by ys)
+      ap₂ (λ (d : Option Float) (asked : List Point). note d y asked) (awaited-at ys) (asked-by ys)
       ∙ sym (noted-awaits (after (search s) ys) y (under-way [] (search s) ys))
 
   -- and how many of the answers finished one

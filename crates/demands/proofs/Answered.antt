@@ -2,10 +2,10 @@
 -- else by 6, 5 or 7 at most; and what that leaves (`answered`). Assumes nothing.
 use mathlib.Core.Path.{_≡_, refl, sym, ap, _∙_}
 use mathlib.Core.Bool.{Bool, true, false, cond, not, true≢false, false≢true}
-use mathlib.Core.Option.{Option, none, some, Option·none-ne-some, Option·some-injective}
+use mathlib.Core.Option.{none, some, Option·none-ne-some}
 use Prim.Native.Nat.{ℕ}
 use lib.Ieee.{Float}
-use Rattle.outcomes.specs.Outcomes.{asks, told}
+use Rattle.outcomes.specs.Outcomes.{Ending, asks, ends, told}
 use Rattle.outcomes.specs.Refusals.{given, refusalIn}
 use Rattle.outcomes.specs.Counters.{counted, evaluations}
 use Rattle.outcomes.proofs.Apart.{asks-not-ends}
@@ -28,9 +28,9 @@ of-step : {stage : Stage} {o : Outcome} → Said stage o → OfTheStep (refusalI
 of-step asks-on = not-refused
 of-step (ended a b) = a
 
-then-over : {stage : Stage} {o : Outcome} → Said stage o → (n : ℕ) → refusalIn (told o) ≡ some n → isOver stage ≡ true
-then-over asks-on n e = absurd (Option·none-ne-some n e)
-then-over (ended a b) n e = refl
+then-over : {stage : Stage} {o : Outcome} → Said stage o → (e : Ending ℕ) → told o ≡ ends e → isOver stage ≡ true
+then-over (asks-on {x = x}) e q = absurd (asks-not-ends x e (sym q))
+then-over (ended a b) e q = refl
 
 then-open : {stage : Stage} {o : Outcome} → Said stage o → (x : Float) → told o ≡ asks x → isOver stage ≡ false
 then-open asks-on x e = refl
@@ -56,7 +56,7 @@ module _ (s : Search) (f g : Float) where
     early = λ n q. sym (rw (w, e)) ∙ q;
     otherwise = λ q. absurd (Option·none-ne-some 2 (sym q ∙ rw (w, e)));
     unchanged = λ q. absurd (false≢true (sym (ap isOver w) ∙ q));
-    over = λ n q. refl;
+    over = λ e q. refl;
     goes-on = λ x q. absurd (asks-not-ends x _ q);
     keeps = λ q a. rw w;
     counts = rw (w, e);
@@ -69,7 +69,7 @@ module _ (s : Search) (f g : Float) where
     early = λ n q. sym (rw w) ∙ q;
     otherwise = λ q. absurd (Option·none-ne-some 8 (sym q ∙ rw w));
     unchanged = λ q. refl;
-    over = λ n q. rw w;
+    over = λ e q. rw w;
     goes-on = λ x q. absurd (asks-not-ends x _ q);
     keeps = λ q a. refl;
     counts = rw w;

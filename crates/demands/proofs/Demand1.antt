@@ -2,7 +2,6 @@
 -- first row that holds, so the tables are read off the definitions. Assumes nothing.
 use mathlib.Core.Path.{_≡_, refl, sym, ap, _∙_}
 use mathlib.Core.List.{List}
-use mathlib.Core.Option.{Option, some}
 use Prim.Native.Nat.{ℕ}
 use Rattle.numbers.specs.Results.{Result, value, refused}
 use Rattle.outcomes.specs.Refusals.{given, inOrder, Table, refusedBy}
@@ -13,31 +12,36 @@ use Rattle.conditions.specs.Conditions.{conditionRows}
 use Rattle.curves.specs.Curves.{curveRows}
 use Rattle.rules.specs.Parameters.{startRows}
 use Rattle.jobs.specs.declared.Job.{Job}
-use Rattle.jobs.specs.Reader.{jobOf}
+use Rattle.jobs.specs.Format.{Field, Holds, meansOf}
 use Rattle.jobs.proofs.BothWays.{job-read, no-job-refused}
-use Rattle.opening.specs.Start.{jobRows, beginsBy, beginOf}
+use Rattle.opening.specs.declared.Opened.{Opened}
+use Rattle.opening.specs.Start.{jobRows, beginsBy, openedTold, BeginSaid}
 use Rattle.demands.specs.Demand1.{Demand1}
 use Rattle.demands.proofs.Answered.{answered}
 use Rattle.demands.proofs.Refused.{refused-rightly}
 
-job-table : (bytes : List ℕ) (j : Job) → jobOf bytes ≡ value j → Table (refusedBy (beginOf bytes)) (jobRows j)
+job-table : (bytes : List ℕ) (r : Opened) → BeginSaid bytes r → (fs : List Field) (j : Job) → Holds 0 fs bytes → meansOf fs ≡ value j
+    → Table (refusedBy (openedTold r)) (jobRows j)
 unfolding inOrder
-job-table bytes j e = record { exactly = ap (λ (r : Result Job). refusedBy (beginsBy r)) e ∙ by-rows (jobRows j) _; ordered = refl }
+job-table bytes r said fs j holds means = record {
+  exactly = ap refusedBy (said ∙ ap beginsBy (job-read bytes fs j holds means)) ∙ by-rows (jobRows j) _;
+  ordered = refl;
+}
 
 pub demand1 : Demand1
 unfolding given inOrder
 demand1 = record {
-  dot = λ a b. record { exactly = by-rows (dotRows a b) _; ordered = refl };
-  point = λ x0 alpha d m. record { exactly = by-rows (pointRows x0 alpha d m) _; ordered = refl };
+  dot = λ a b r said. record { exactly = ap refusedBy said ∙ by-rows (dotRows a b) _; ordered = refl };
+  point = λ x0 alpha d held r now said. record { exactly = ap refusedBy (said .0) ∙ by-rows (pointRows x0 alpha d _) _; ordered = refl };
   buffer = buffers-untouched;
-  condition = λ C. record { exactly = by-rows (conditionRows C) _; ordered = refl };
-  curve = λ n. record { exactly = by-rows (curveRows n) _; ordered = refl };
-  start = λ o f0 s0. record { exactly = by-rows (startRows o f0 s0) _; ordered = refl };
-  job-read = job-read;
-  no-job = no-job-refused;
-  job-nine = λ bytes e. ap beginsBy e;
+  condition = λ C r said. record { exactly = ap refusedBy said ∙ by-rows (conditionRows C) _; ordered = refl };
+  curve = λ n r said. record { exactly = ap refusedBy said ∙ by-rows (curveRows n) _; ordered = refl };
+  start = λ o f0 s0 r said. record { exactly = ap refusedBy said ∙ by-rows (startRows o f0 s0) _; ordered = refl };
+  job-read = λ bytes r said fs j holds means. said ∙ job-read bytes fs j holds means;
+  no-job = λ bytes r said none. said ∙ no-job-refused bytes none;
+  no-job-begun = λ bytes r said none. said ∙ ap beginsBy (no-job-refused bytes none);
   job = job-table;
   answer = answered;
   curve-answer = λ s c x r said runs amiss. answered s _ _ r said .early 2 (rw (runs, amiss));
-  search = refused-rightly;
+  search-given = refused-rightly;
 }

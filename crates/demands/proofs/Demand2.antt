@@ -2,6 +2,7 @@
 -- never come to the Rust's error; and 01's empty programs break it (`demand2`). Assumes nothing.
 use mathlib.Core.Path.{_≡_, refl, sym, ap, _∙_, subst}
 use mathlib.Core.Bool.{true, false≢true}
+use mathlib.Core.List.{List}
 use mathlib.Core.Option.{some, none, Option·none-ne-some}
 use Prim.Native.Nat.{ℕ}
 use lib.Ieee.{Float}
@@ -26,9 +27,12 @@ use Rattle.hagerzhang.specs.declared.Step.{Step}
 use Rattle.hagerzhang.specs.declared.Started.the-variants.{NoSearch}
 use Rattle.hagerzhang.specs.Machine.{fresh, startOf}
 use Rattle.hagerzhang.specs.Meaning.{meant, Starts, Follows}
-use Rattle.hagerzhang.proofs.Bridge.{starts-whole}
-use Rattle.demands.specs.Demand2.{Demand2}
-use Rattle.demands.proofs.Along.{outcomes-are, report-at}
+use Rattle.hagerzhang.proofs.Bridge.{follows, starts-whole}
+use Rattle.curves.specs.declared.Curve.{Curve}
+use Rattle.opening.specs.Start.{f0Of, s0Of}
+use Rattle.opening.proofs.Begins.{Begins, begun}
+use Rattle.demands.specs.Demand2.{ByRules, GivenByStart, Demand2}
+use Rattle.demands.proofs.Along.{outcomes-are, report-at, awaited-at}
 
 -- ---- the first answer, by the rules: max is asked
 first-step : (s : Setup) → shown (search s) ≡ asks (s .options .params .min)
@@ -54,13 +58,13 @@ module _ (o : Options) (f0 s0 : Float) (ok : Passed (startRows o f0 s0)) where
   bounds-differ same =
       false≢true (sym (lt-irrefl (o .params .max)) ∙ subst (λ (x : Float). x <ᶠ o .params .max ≡ true) same (low-below-high o f0 s0 ok))
 
-  module _ (f g : Float) (fine : answerFinite f g ≡ true) (r : Step) (follows : Follows b f g r) where
+  module _ (f g : Float) (fine : answerFinite f g ≡ true) (r : Step) (by : Follows b f g r) where
     -- what follows the rules asks max
     asks-max : told (r .outcome) ≡ asks (o .params .max)
-    asks-max = follows .tells ∙ ap (λ (q : Rest Report). shown (respond q f g)) (starts-whole s) ∙ second-step s f g fine
+    asks-max = by .tells ∙ ap (λ (q : Rest Report). shown (respond q f g)) (starts-whole s) ∙ second-step s f g fine
 
     leaves-max : shown (meant (r .search)) ≡ asks (o .params .max)
-    leaves-max = ap shown (follows .leaves) ∙ ap (λ (q : Rest Report). shown (onceTold (respond q f g))) (starts-whole s) ∙ left-asks s f g fine
+    leaves-max = ap shown (by .leaves) ∙ ap (λ (q : Rest Report). shown (onceTold (respond q f g))) (starts-whole s) ∙ left-asks s f g fine
 
     no-refusal : (n : ℕ) → refusalIn (told (r .outcome)) ≡ some n → ⊥
     no-refusal n e = Option·none-ne-some n (sym (ap refusalIn asks-max) ∙ e)
@@ -77,11 +81,12 @@ module _ (o : Options) (f0 s0 : Float) (ok : Passed (startRows o f0 s0)) where
   no-refused-start k starts =
       Option·none-ne-some (numberOf k) (sym (ap refusedBy (starts .stands-for ∙ value-given (startRows o f0 s0) (search s) ok)))
 
-  of-fresh : Demand2 o f0 s0 (fresh s)
+  of-fresh : ByRules o f0 s0 (fresh s)
   of-fresh = record {
     first-ask = unfold search shown in refl;
     outcomes-are-rules = outcomes-are o f0 s0 ok;
     report-is-rules = report-at o f0 s0 ok;
+    awaited-is-rules = awaited-at o f0 s0 ok;
     never-unreachable = rules.never-unreachable o f0 s0 ok;
     report-finite = λ ys. ap reportFinite (report-at o f0 s0 ok ys) ∙ rules.report-finite o f0 s0 ok ys;
     refusing-start-shut-out = no-refused-start;
@@ -90,7 +95,18 @@ module _ (o : Options) (f0 s0 : Float) (ok : Passed (startRows o f0 s0)) where
     untouched-shut-out = other-state;
   }
 
-pub demand2 : (o : Options) (f0 s0 : Float) (t : Step) → startOf o f0 s0 ≡ value t → Demand2 o f0 s0 t
-demand2 o f0 s0 t began =
+by-rules : (o : Options) (f0 s0 : Float) (t : Step) → startOf o f0 s0 ≡ value t → ByRules o f0 s0 t
+by-rules o f0 s0 t began =
     let given = passed (startRows o f0 s0) (fresh (setupOf o f0 s0)) t began in
-    subst (Demand2 o f0 s0) (given .1) (of-fresh o f0 s0 (given .0))
+    subst (ByRules o f0 s0) (given .1) (of-fresh o f0 s0 (given .0))
+
+-- a job's search is the start's, with the job's options and its curve's cost and slope at 0
+given-by : (bytes : List ℕ) (c : Curve) (t : Step) → Begins bytes c t → GivenByStart t
+given-by bytes c t b = record { o = b .job .options; f0 = f0Of (b .job); s0 = s0Of (b .job); given = b .started }
+
+pub demand2 : Demand2
+demand2 = record {
+  search-given = by-rules;
+  job-given = λ bytes c t said. given-by bytes c t (begun bytes c t (sym said));
+  any-state = λ s f g r said limit real. follows s limit real f g r said;
+}

@@ -43,7 +43,7 @@ use Rattle.hagerzhang.specs.declared.Step.{Step}
 use Rattle.hagerzhang.specs.Machine.{fresh, startOf}
 use Rattle.hagerzhang.specs.Meaning.{report, isOver}
 use Rattle.demands.specs.Runs.{reachedBy, toldAt, one-more, finiteBy, notFiniteBy, askedBy, askedAt, finishedBy}
-use Rattle.demands.specs.Demand3.{AtLimit, Demand3}
+use Rattle.demands.specs.Demand3.{AtLimit, Bounded, Demand3}
 use Rattle.demands.proofs.Along.{
   after-one-more,
   report-at,
@@ -74,7 +74,7 @@ unfolding step-at is-limit
 limit-reached s k asked e x (at-limit {p = p} fails n) is = record { p = p; holds = refl; iterations = n; best = ap (step-at x) is }
 limit-reached s k asked e x (verdict j) is = absurd (false≢true (ap is-limit is))
 limit-reached s k asked e x (not-finite u) is = absurd (false≢true (ap is-limit is))
-limit-reached s k asked e x (trial-not-finite t u) is = absurd (false≢true (ap is-limit is))
+limit-reached s k asked e x (trial-not-finite t a u) is = absurd (false≢true (ap is-limit is))
 limit-reached s k asked e x (U3-not-finite t u) is = absurd (false≢true (ap is-limit is))
 limit-reached s k asked e x (spent t n) is = absurd (false≢true (ap is-limit is))
 limit-reached s k asked e x (not-between t u n) is = absurd (false≢true (ap is-limit is))
@@ -113,7 +113,7 @@ module _ (o : Options) (f0 s0 : Float) (ok : Passed (startRows o f0 s0)) where
       limit-reached s (e .keeps) (under-way [] (search s) (one-more ys y)) (e .by) x
       (rules.ends o f0 s0 ok (one-more ys y) (e .keeps) (e .by) (after-one-more (search s) ys y ∙ is)) (same-end (numbered (e .by)) (limit x) shows)
 
-  of-fresh : Demand3 o f0 s0 t
+  of-fresh : Bounded o f0 s0 t
   of-fresh = record {
     bracket-stays = λ ya yb yc ys premise p e.
         rules.bracket-stays o f0 s0 ok ya yb yc premise ys p (sym (report-at o f0 s0 ok (ya ∷ yb ∷ yc ∷ ys)) ∙ e);
@@ -141,7 +141,10 @@ module _ (o : Options) (f0 s0 : Float) (ok : Passed (startRows o f0 s0)) where
   }
 
 -- ---- every search that `start` gave
-pub demand3 : (o : Options) (f0 s0 : Float) (t : Step) → startOf o f0 s0 ≡ value t → Demand3 o f0 s0 t
-demand3 o f0 s0 t began =
+bounded : (o : Options) (f0 s0 : Float) (t : Step) → startOf o f0 s0 ≡ value t → Bounded o f0 s0 t
+bounded o f0 s0 t began =
     let given = passed (startRows o f0 s0) (fresh (setupOf o f0 s0)) t began in
-    subst (Demand3 o f0 s0) (given .1) (of-fresh o f0 s0 (given .0))
+    subst (Bounded o f0 s0) (given .1) (of-fresh o f0 s0 (given .0))
+
+pub demand3 : Demand3
+demand3 = record { search-given = bounded }

@@ -1,68 +1,174 @@
--- Every Hager-Zhang search that `start` gave is refused for a reason that is true of its numbers, and every step that it asks is
--- finite, in U3 strictly between its ends (`refused-rightly`). From the rules (rules/proofs/Demand3.antt). Assumes nothing.
+-- Every Hager-Zhang search that `start` gave ends for a reason that is true of its numbers; where U3 goes on it tells 6, 5, 7 or its
+-- next step exactly when 01 says so; and every step that it asks is finite, in U3 strictly between its ends
+-- (`refused-rightly`). From the rules (rules/proofs/Demand3.antt). Assumes nothing.
 use mathlib.Core.Path.{_≡_, refl, sym, ap, _∙_, subst}
-use mathlib.Core.Bool.{Bool, true, false, false≢true}
-use Prim.Native.Nat.{ℕ}
-use lib.Ieee.{Float}
+use mathlib.Core.Bool.{Bool, true, false, cond, not, _&&_, _||_, false≢true}
 use mathlib.Core.List.{List, []}
+use mathlib.Core.Option.{Option, some, none}
+use Prim.Native.Nat.{ℕ, _<_}
+use native.Mathlib.Omega.{arith}
+use lib.Dec.{eqb}
+use lib.Ieee.{Float}
+use lib.Ieee.Scale.{finite}
+use borrow.Author.Tests.{eq-eqb, ne-eqb}
+use Rattle.floats.specs.Arithmetic.{_<ᶠ_}
 use Rattle.numbers.specs.Results.{value}
-use Rattle.outcomes.specs.Outcomes.{Ending, stop, limit, refusal, Why, numbered, asks, ends}
+use Rattle.outcomes.specs.Outcomes.{Ending, Why, numbered, Told, asks, ends}
 use Rattle.outcomes.specs.Asking.{Search as Rest, ask, end, Reply, respond, shown, reported, after}
+use Rattle.outcomes.specs.Refusals.{given, refusalIn}
 use Rattle.outcomes.proofs.Apart.{asks-not-ends, same-end}
 use Rattle.outcomes.proofs.Refusals.{Passed, passed}
 use Rattle.rules.specs.declared.Point.{Point}
+use Rattle.rules.specs.declared.Bracket.{Bracket}
+use Rattle.rules.specs.declared.Came.the-variants.{To, On}
 use Rattle.rules.specs.declared.Options.{Options}
 use Rattle.rules.specs.declared.Setup.{Setup}
 use Rattle.rules.specs.Parameters.{setupOf, startRows}
-use Rattle.rules.specs.Rules.{Report, search}
-use Rattle.rules.specs.Iterations.{under-way, Ends}
+use Rattle.rules.specs.Rules.{answerFinite, middleOf, Last, Report, last, search}
+use Rattle.rules.specs.Iterations.{
+  under-way,
+  standing,
+  had,
+  InU3,
+  Asks,
+  trial,
+  inside,
+  Ends,
+  verdict,
+  at-limit,
+  not-finite,
+  trial-not-finite,
+  U3-not-finite,
+  spent,
+  not-between,
+  already,
+}
 use Rattle.rules.proofs.Demand3 as rules
 use Rattle.hagerzhang.specs.declared.Step.{Step}
-use Rattle.hagerzhang.specs.Machine.{fresh, startOf}
-use Rattle.demands.specs.Runs.{one-more}
-use Rattle.demands.specs.Demand1.{Reason, Refused}
-use Rattle.demands.proofs.Along.{after-one-more, report-at, report-next, over-at, told-at, asked-by}
+use Rattle.hagerzhang.specs.Machine.{answerOf, fresh, startOf}
+use Rattle.hagerzhang.specs.Meaning.{report, isOver, OfTheStep, not-refused, six, five, seven}
+use Rattle.demands.specs.Runs.{reachedBy, toldAt, one-more}
+use Rattle.demands.specs.Demand1.{earlyRows, Reason, toldInU3, Refused}
+use Rattle.demands.proofs.Along.{after-one-more, report-at, report-next, told-at, asked-by}
+use Rattle.demands.proofs.Answered.{answered}
 
--- ---- an ending that is told as a refusal has a reason with that number
-is-refusal : Ending ℕ → Bool
-is-refusal (stop w x) = false
-is-refusal (limit x) = false
-is-refusal (refusal n) = true
+-- ---- in U3, from its reasons
+not-to : (u : Bracket) (h : Point) (k : Float) → some (To u) ≡ some (On h k) → ⊥
+not-to u h k e = let z : _≡_ {A = ℕ} 0 1 = cc in omega arith
 
-same-number : (m n : ℕ) → refusal m ≡ refusal n → m ≡ n
-same-number m n e = cc
+of-step : Option ℕ → Bool
+of-step none = true
+of-step (some n) = eqb n 6 || eqb n 5 || eqb n 7
 
-reason : (s : Setup) (k : Report) (asked : List Point) (e : Ending Why) (n : ℕ) → Ends s k asked e → numbered e ≡ refusal n → Reason s k asked n
-unfolding is-refusal
-reason s k asked (stop w x) n because is = absurd (false≢true (ap is-refusal is))
-reason s k asked (limit x) n because is = absurd (false≢true (ap is-refusal is))
-reason s k asked (refusal why) n because is = record { why = why; number = same-number _ n is; ends = because }
+is-of-step : {o : Option ℕ} → OfTheStep o → of-step o ≡ true
+unfolding of-step
+is-of-step not-refused = refl
+is-of-step six = refl
+is-of-step five = refl
+is-of-step seven = refl
+
+module _ (s : Setup) (p : Last) (asked : List Point) (h : Point) (k : Float) (in-U3 : standing s (p .bracket) asked ≡ some (On h k)) where
+  abbrev d : Float
+  d = middleOf (s .options .params .theta) h k
+
+  abbrev n : ℕ
+  n = had s (p .bracket) asked
+
+  -- U3's ends are those
+  same-low : (h' : Point) (k' : Float) → standing s (p .bracket) asked ≡ some (On h' k') → h' ≡ h
+  same-low h' k' e = let z : some (On h' k') ≡ some (On h k) = sym e ∙ in-U3 in cc
+
+  same-high : (h' : Point) (k' : Float) → standing s (p .bracket) asked ≡ some (On h' k') → k' ≡ k
+  same-high h' k' e = let z : some (On h' k') ≡ some (On h k) = sym e ∙ in-U3 in cc
+
+  next-is : (h' : Point) (k' x : Float) → InU3 s (p .bracket) asked h' k' x → x ≡ d
+  next-is h' k' x i = i .next ∙ rw (same-low h' k' (i .stands), same-high h' k' (i .stands))
+
+  not-all : n < s .options .budget → eqb n (s .options .budget) ≡ false
+  not-all few = ne-eqb n (s .options .budget) (λ (e : n ≡ s .options .budget). omega arith)
+
+  tells-asked : (x : Float) → Asks s p asked x → asks x ≡ toldInU3 s n h k
+  tells-asked x (trial {u = u} e a f) = absurd (not-to u h k (sym e ∙ in-U3))
+  tells-asked x (inside {h = h'} {k = k'} i f strictly) =
+      let same = next-is h' k' x i in
+      let fine : finite d ≡ true = subst (λ (z : Float). finite z ≡ true) same f in
+      let within : (h .x <ᶠ d && d <ᶠ k) ≡ true =
+      subst (λ (z : Float). (h .x <ᶠ z && z <ᶠ k) ≡ true) same
+      (rw (same-low h' k' (i .stands), same-high h' k' (i .stands)) at strictly) in
+      rw (not-all (i .answered), fine, within) (ap asks same)
+
+tells-ended : (s : Setup) (p : Last) (asked : List Point) (h : Point) (k : Float) (e : Ending Why) → Ends s (last p) asked e
+    → standing s (p .bracket) asked ≡ some (On h k)
+    → of-step (refusalIn (ends (numbered e))) ≡ true
+    → ends (numbered e) ≡ toldInU3 s (had s (p .bracket) asked) h k
+unfolding of-step standing
+tells-ended s p asked h k e (verdict j) in-U3 o = absurd (not-to (p .bracket) h k in-U3)
+tells-ended s p asked h k e (at-limit j i) in-U3 o = absurd (not-to (p .bracket) h k in-U3)
+tells-ended s p asked h k e (not-finite u) in-U3 o = absurd (false≢true o)
+tells-ended s p asked h k e (trial-not-finite {u = u} t a x) in-U3 o = absurd (not-to u h k (sym t ∙ in-U3))
+tells-ended s p asked h k e (U3-not-finite {h = h'} {k = k'} {x = x} i f) in-U3 o =
+    let same = next-is s p asked h k in-U3 h' k' x i in
+    let fine : finite (d s p asked h k in-U3) ≡ false = subst (λ (z : Float). finite z ≡ false) same f in
+    rw (not-all s p asked h k in-U3 (i .answered), fine)
+tells-ended s p asked h k e (spent t all) in-U3 o = rw (eq-eqb (had s (p .bracket) asked) (s .options .budget) all)
+tells-ended s p asked h k e (not-between {h = h'} {k = k'} {x = x} i f outside) in-U3 o =
+    let same = next-is s p asked h k in-U3 h' k' x i in
+    let next = d s p asked h k in-U3 in
+    let fine : finite next ≡ true = subst (λ (z : Float). finite z ≡ true) same f in
+    let ends-here = rw (same-low s p asked h k in-U3 h' k' (i .stands), same-high s p asked h k in-U3 h' k' (i .stands)) at outside in
+    let not-within : (h .x <ᶠ next && next <ᶠ k) ≡ false = subst (λ (z : Float). (h .x <ᶠ z && z <ᶠ k) ≡ false) same ends-here in
+    rw (not-all s p asked h k in-U3 (i .answered), fine, not-within)
+tells-ended s p asked h k e already in-U3 o = absurd (false≢true o)
 
 -- ---- a start that no row refuses
 module _ (o : Options) (f0 s0 : Float) (ok : Passed (startRows o f0 s0)) where
   abbrev s : Setup
   s = setupOf o f0 s0
 
-  ended : (ys : List Reply) (y : Reply) (n : ℕ) (r : Rest Report) → respond (after (search s) ys) (y .0) (y .1) ≡ r
-      → shown r ≡ ends (refusal n) → Reason s (reported r) (under-way [] (search s) (one-more ys y)) n
+  abbrev asked-then : List Reply → Reply → List Point
+  asked-then ys y = under-way [] (search s) (one-more ys y)
+
+  because : (ys : List Reply) (y : Reply) (e : Ending ℕ) (r : Rest Report) → respond (after (search s) ys) (y .0) (y .1) ≡ r
+      → shown r ≡ ends e → Reason s (reported r) (asked-then ys y) e
   unfolding shown reported
-  ended ys y n (ask k z then) is e = absurd (asks-not-ends z (refusal n) (sym e))
-  ended ys y n (end e) is shows =
-      reason s (e .keeps) (under-way [] (search s) (one-more ys y)) (e .by) n
-      (rules.ends o f0 s0 ok (one-more ys y) (e .keeps) (e .by) (after-one-more (search s) ys y ∙ is))
-      (same-end (numbered (e .by)) (refusal n) shows)
+  because ys y e (ask k z then) is shows = absurd (asks-not-ends z e (sym shows))
+  because ys y e (end o') is shows = record {
+    reason = o' .by;
+    told-as = same-end (numbered (o' .by)) e shows;
+    true-of = rules.ends o f0 s0 ok (one-more ys y) (o' .keeps) (o' .by) (after-one-more (search s) ys y ∙ is);
+  }
 
   shown-next : (ys : List Reply) (y : Reply) → shown (after (search s) (one-more ys y)) ≡ shown (respond (after (search s) ys) (y .0) (y .1))
   shown-next ys y = ap shown (after-one-more (search s) ys y)
 
+  goes-on-in : (ys : List Reply) (y : Reply) (p : Last) (h : Point) (k : Float) (r : Rest Report)
+      → respond (after (search s) ys) (y .0) (y .1) ≡ r → reported r ≡ last p
+      → standing s (p .bracket) (asked-then ys y) ≡ some (On h k) → OfTheStep (refusalIn (shown r))
+      → shown r ≡ toldInU3 s (had s (p .bracket) (asked-then ys y)) h k
+  unfolding shown reported
+  goes-on-in ys y p h k (ask k' x then) is e in-U3 o' =
+      let here = after-one-more (search s) ys y ∙ is in
+      tells-asked s p (asked-then ys y) h k in-U3 x
+      (rules.asks o f0 s0 ok (one-more ys y) p x (ap reported here ∙ e) (ap shown here))
+  goes-on-in ys y p h k (end o'') is e in-U3 o' =
+      let reason : Ends s (o'' .keeps) (asked-then ys y) (o'' .by) =
+      rules.ends o f0 s0 ok (one-more ys y) (o'' .keeps) (o'' .by) (after-one-more (search s) ys y ∙ is) in
+      tells-ended s p (asked-then ys y) h k (o'' .by) (subst (λ (l : Report). Ends s l (asked-then ys y) (o'' .by)) e reason) in-U3
+      (is-of-step o')
+
   of-fresh : Refused o f0 s0 (fresh s)
+  unfolding given
   of-fresh = record {
-    refused = λ ys y n e.
+    ended = λ ys y e q.
         rw (report-next o f0 s0 ok ys y, asked-by o f0 s0 ok (one-more ys y))
-        (ended ys y n (respond (after (search s) ys) (y .0) (y .1)) refl (sym (told-at o f0 s0 ok ys y) ∙ e));
-    spent = λ ys p h k e stands all.
-        over-at o f0 s0 ok ys
-        ∙ rules.spent-over o f0 s0 ok ys p h k (sym (report-at o f0 s0 ok ys) ∙ e) (rw (asked-by o f0 s0 ok ys) at stands) (rw (asked-by o f0 s0 ok ys) at all);
+        (because ys y e (respond (after (search s) ys) (y .0) (y .1)) refl (sym (told-at o f0 s0 ok ys y) ∙ q));
+    in-U3 = λ ys y runs fine p h k e stands.
+        let c = reachedBy (fresh s .search) ys in
+        let step = answered c (y .0) (y .1) (answerOf c (y .0) (y .1)) refl .otherwise (rw (runs, fine)) in
+        rw (asked-by o f0 s0 ok (one-more ys y)) (told-at o f0 s0 ok ys y ∙
+        goes-on-in ys y p h k (respond (after (search s) ys) (y .0) (y .1)) refl (sym (report-next o f0 s0 ok ys y) ∙ e)
+        (rw (asked-by o f0 s0 ok (one-more ys y)) at stands)
+        (subst (λ (q : Told). OfTheStep (refusalIn q)) (told-at o f0 s0 ok ys y) step));
     asks-finite = λ ys y x e. rules.asks-finite o f0 s0 ok (one-more ys y) x (shown-next ys y ∙ sym (told-at o f0 s0 ok ys y) ∙ e);
     asks-rightly = λ ys y x e p h.
         rw (asked-by o f0 s0 ok (one-more ys y))

@@ -1,6 +1,6 @@
 -- Demands 1 to 3 of backtracking, together (`backtracking-demands`). Assumes nothing.
-use mathlib.Core.Path.{refl}
-use Rattle.outcomes.specs.Refusals.{inOrder}
+use mathlib.Core.Path.{refl, ap, _∙_}
+use Rattle.outcomes.specs.Refusals.{inOrder, refusedBy}
 use Rattle.outcomes.proofs.Refusals.{by-rows}
 use Rattle.backtracking.specs.Backtracking.{startRows}
 use Rattle.demands.specs.Backtracking.{BacktrackingDemands}
@@ -10,7 +10,7 @@ use Rattle.demands.proofs.Backtracking.{searches}
 pub backtracking-demands : BacktrackingDemands
 unfolding inOrder
 backtracking-demands = record {
-  start = λ s. record { exactly = by-rows (startRows s) _; ordered = refl };
+  start = λ s r said. record { exactly = ap refusedBy said ∙ by-rows (startRows s) _; ordered = refl };
   answer = answered;
   search-given = searches;
 }

@@ -11,6 +11,7 @@ use Rattle.floats.specs.Arithmetic.{_⊗_}
 use Rattle.outcomes.specs.Outcomes.{told}
 use Rattle.outcomes.specs.Refusals.{given, inOrder}
 use Rattle.outcomes.specs.Counters.{counted, evaluations, iterations}
+use Rattle.outcomes.proofs.Apart.{asks-not-ends}
 use Rattle.outcomes.proofs.Branches.{either}
 use Rattle.outcomes.specs.declared.Outcome.the-variants.{Ask, Stop, Limit, Refused}
 use Rattle.outcomes.specs.declared.Refusal.the-variants.{SuppliedNotFinite, StepNotFinite}
@@ -54,12 +55,12 @@ module _ (b : Backtracking) (f g : Float) (stage : Trying) (w : b .stage ≡ sta
       (cond x (madeOf s m now (Later (t ⊗ s .rho)) (Ask (t ⊗ s .rho))) (madeOf s m now TriedOut (Refused StepNotFinite)))))
       (madeOf s (b .evaluations) (b .iterations) TriedOut (Refused SuppliedNotFinite)))
   unfolding inOrder
-  tries false h l x ea eh el ex = record { refused-by = record { exactly = rw (rows, ea); ordered = refl }; unchanged = not-over; over = λ n q. refl; keeps = λ n q. kept-if false ea; counts = rw (runs, ea) }
-  tries true true l x ea eh el ex = record { refused-by = record { exactly = rw (rows, ea, eh); ordered = refl }; unchanged = not-over; over = λ n q. refl; keeps = λ n q. absurd (Option·none-ne-some n q); counts = rw (runs, ea) }
-  tries true false true x ea eh el ex = record { refused-by = record { exactly = rw (rows, ea, eh, el); ordered = refl }; unchanged = not-over; over = λ n q. refl; keeps = λ n q. absurd (Option·none-ne-some n q); counts = rw (runs, ea) }
+  tries false h l x ea eh el ex = record { refused-by = record { exactly = rw (rows, ea); ordered = refl }; unchanged = not-over; over = λ e q. refl; keeps = λ n q. kept-if false ea; counts = rw (runs, ea) }
+  tries true true l x ea eh el ex = record { refused-by = record { exactly = rw (rows, ea, eh); ordered = refl }; unchanged = not-over; over = λ e q. refl; keeps = λ n q. absurd (Option·none-ne-some n q); counts = rw (runs, ea) }
+  tries true false true x ea eh el ex = record { refused-by = record { exactly = rw (rows, ea, eh, el); ordered = refl }; unchanged = not-over; over = λ e q. refl; keeps = λ n q. absurd (Option·none-ne-some n q); counts = rw (runs, ea) }
   tries true false false true ea eh el ex =
-      record { refused-by = record { exactly = rw (rows, ea, eh, el, ex); ordered = refl }; unchanged = not-over; over = λ n q. absurd (Option·none-ne-some n q); keeps = λ n q. absurd (Option·none-ne-some n q); counts = rw (runs, ea) }
-  tries true false false false ea eh el ex = record { refused-by = record { exactly = rw (rows, ea, eh, el, ex); ordered = refl }; unchanged = not-over; over = λ n q. refl; keeps = λ n q. kept-if true ea; counts = rw (runs, ea) }
+      record { refused-by = record { exactly = rw (rows, ea, eh, el, ex); ordered = refl }; unchanged = not-over; over = λ e q. absurd (asks-not-ends _ e (sym q)); keeps = λ n q. absurd (Option·none-ne-some n q); counts = rw (runs, ea) }
+  tries true false false false ea eh el ex = record { refused-by = record { exactly = rw (rows, ea, eh, el, ex); ordered = refl }; unchanged = not-over; over = λ e q. refl; keeps = λ n q. kept-if true ea; counts = rw (runs, ea) }
 
   tried : Tried b f g (triedOf s (b .evaluations) (b .iterations) now t f g)
   unfolding triedOf
@@ -71,7 +72,7 @@ unfolding answerBy given inOrder
 by-stage b f g First w = tried b f g First w refl (b .iterations) (b .setup .alpha) refl
     (sym (either (λ (n : ℕ). n) (answerFinite (b .setup .condition) f g) _ _ (b .iterations .0) refl refl))
 by-stage b f g (Later t) w = tried b f g (Later t) w refl (iterations (counted (b .iterations .0))) t refl refl
-by-stage b f g TriedOut w = record { refused-by = record { exactly = rw w; ordered = refl }; unchanged = λ q. refl; over = λ n q. rw w; keeps = λ n q. rw w; counts = rw w }
+by-stage b f g TriedOut w = record { refused-by = record { exactly = rw w; ordered = refl }; unchanged = λ q. refl; over = λ e q. rw w; keeps = λ n q. rw w; counts = rw w }
 
 pub answered : (b : Backtracking) (f g : Float) (r : Step) → AnswerSaid b f g r → Tried b f g r
 answered b f g r e = rw e (by-stage b f g (b .stage) refl)

@@ -11,7 +11,7 @@ use lib.Ieee.{Float}
 use lib.Ieee.Scale.{finite}
 use Rattle.floats.specs.Arithmetic.{_⊗_}
 use Rattle.numbers.specs.Results.{value, Row}
-use Rattle.outcomes.specs.Outcomes.{Told, told}
+use Rattle.outcomes.specs.Outcomes.{Ending, Told, ends, told}
 use Rattle.outcomes.specs.Asking.{Reply, shown, reported, outcomes, after, reached, played, tallied}
 use Rattle.outcomes.specs.Counters.{counted}
 use Rattle.outcomes.specs.Refusals.{Table, refusedBy, refusalIn}
@@ -21,8 +21,9 @@ use Rattle.backtracking.specs.declared.Stage.{Stage as Trying}
 use Rattle.backtracking.specs.declared.Stage.the-variants.{First, Later, Over as TriedOut}
 use Rattle.backtracking.specs.declared.Backtracking.{Backtracking}
 use Rattle.backtracking.specs.declared.Step.{Step}
+use Rattle.backtracking.specs.declared.Started.{Started}
 use Rattle.backtracking.specs.Backtracking.{startRows, search}
-use Rattle.backtracking.specs.Machine.{startOf, answerOf, AnswerSaid}
+use Rattle.backtracking.specs.Machine.{startOf, startedTold, StartSaid, answerOf, AnswerSaid}
 
 -- ---- an answer to any state: the trial's step, and whether it is the last that N allows
 
@@ -66,8 +67,8 @@ pub record Tried (b : Backtracking) (f g : Float) (r : Step) : Type 0 where
   pub refused-by : Table (refusalIn (told (r .outcome))) (trialsRows b f g)
   -- 8: "state unchanged"
   pub unchanged : triedOut (b .stage) ≡ true → r .search ≡ b
-  -- 2, 5: "search over", with the iterations "from before that trial"
-  pub over : (n : ℕ) → refusalIn (told (r .outcome)) ≡ some n → triedOut (r .search .stage) ≡ true
+  -- 2, 5: "search over", as after a stop and the limit, with the iterations "from before that trial"
+  pub over : (e : Ending ℕ) → told (r .outcome) ≡ ends e → triedOut (r .search .stage) ≡ true
   pub keeps : (n : ℕ) → refusalIn (told (r .outcome)) ≡ some n → r .search .iterations .0 ≡ trialsKept b (b .stage) f g
   -- "Evaluations count every finite answer accepted"
   pub counts : r .search .evaluations .0
@@ -117,6 +118,6 @@ module _ (s : Trials) (t : Step) where
     pub non-finite-once : (ys : List Reply) → tallied next isAsking (λ f g. not (test f g)) b ys ≤ 1
 
 pub record BacktrackingDemands : Type 0 where
-  pub start : (s : Trials) → Table (refusedBy (startOf s)) (startRows s)
+  pub start : (s : Trials) (r : Started) → StartSaid s r → Table (refusedBy (startedTold r)) (startRows s)
   pub answer : (b : Backtracking) (f g : Float) (r : Step) → AnswerSaid b f g r → Tried b f g r
   pub search-given : (s : Trials) (t : Step) → startOf s ≡ value t → Searches s t

@@ -1,37 +1,46 @@
 -- Demand 2: "For finite trials, answers and computed numbers, within our limits and without a U3 stall, steps, bracket, best
 -- step and verdict equal the Rust's bit for bit. They are proved equal to rules U0-U3, S1-S4, L1-L3 and the conditions as
--- 01 writes them in computed floats." Of a Hager-Zhang search that `start` gave, t; outside those limits 01's rules refuse,
--- and so does the search. (Backtracking: specs/Backtracking.antt. Equal to the Rust's: run and compared, README.)
-use Prim.Native.Nat.{ℕ}
+-- 01 writes them in computed floats." Of Hager-Zhang; outside those limits 01's rules refuse, and so does the search.
+-- (Backtracking: specs/Backtracking.antt. Equal to the Rust's: run and compared, README.)
+use Prim.Native.Nat.{ℕ, _<_}
 use mathlib.Core.Path.{_≡_}
-use mathlib.Core.Bool.{true}
+use mathlib.Core.Bool.{true, false}
 use mathlib.Core.List.{List}
 use mathlib.Core.Option.{some}
-use lib.Ieee.{Float}
+use lib.Ieee.{Float, isNan}
+use Rattle.numbers.specs.Results.{value}
 use Rattle.outcomes.specs.declared.Refusal.{Refusal}
 use Rattle.outcomes.specs.Outcomes.{refusal, unreachable, told}
-use Rattle.outcomes.specs.Asking.{Search as Rest, over, Reply, shown, reported, outcomes, after}
+use Rattle.outcomes.specs.Asking.{Search as Rest, over, Reply, shown, reported, awaits, outcomes, after}
 use Rattle.outcomes.specs.Refusals.{refusalIn}
 use Rattle.rules.specs.declared.Options.{Options}
 use Rattle.rules.specs.Parameters.{setupOf}
 use Rattle.rules.specs.Rules.{answerFinite, Report, search}
 use Rattle.rules.specs.Iterations.{reportFinite}
+use Rattle.curves.specs.declared.Curve.{Curve}
+use Rattle.opening.specs.declared.Opened.the-variants.{Begun}
+use Rattle.opening.specs.Start.{BeginSaid}
+use Rattle.hagerzhang.specs.declared.Search.{Search}
 use Rattle.hagerzhang.specs.declared.Step.{Step}
 use Rattle.hagerzhang.specs.declared.Started.the-variants.{NoSearch}
-use Rattle.hagerzhang.specs.Meaning.{report, Starts, Follows}
+use Rattle.hagerzhang.specs.Machine.{dueIn, startOf, AnswerSaid}
+use Rattle.hagerzhang.specs.Meaning.{report, dueTold, Starts, Follows}
 use Rattle.demands.specs.Runs.{reachedBy, toldBy}
+
+-- ---- a search t that `start` gave for the options o, and the cost f0 and slope s0 at step 0
 
 module _ (o : Options) (f0 s0 : Float) (t : Step) where
   -- the search as 01 writes it
   abbrev rules : Rest Report
   rules = search (setupOf o f0 s0)
 
-  pub record Demand2 : Type 0 where
+  pub record ByRules : Type 0 where
     -- "steps .. and verdict": what is told first, and after each of any answers
     pub first-ask : told (t .outcome) ≡ shown rules
     pub outcomes-are-rules : (ys : List Reply) → toldBy (t .search) ys ≡ outcomes rules ys
-    -- "bracket, best step": what is held after any answers, or none yet
+    -- "bracket, best step": what is held after any answers, or none yet; and the step at which it awaits the next
     pub report-is-rules : (ys : List Reply) → report (reachedBy (t .search) ys) ≡ reported (after rules ys)
+    pub awaited-is-rules : (ys : List Reply) → dueTold (dueIn (reachedBy (t .search) ys)) ≡ awaits (after rules ys)
     -- "The Rust's "unreachable point" error cannot occur here."
     pub never-unreachable : (ys : List Reply) (k : Report) → after rules ys ≡ over k (refusal unreachable) → ⊥
     -- every number that is ever reported is finite; so one of 01's three tests for the best held
@@ -45,3 +54,18 @@ module _ (o : Options) (f0 s0 : Float) (t : Step) where
         → told (r .outcome) ≡ told (t .outcome) → ⊥
     pub untouched-shut-out : (f g : Float) → answerFinite f g ≡ true → (r : Step) → Follows (t .search) f g r
         → r .search ≡ t .search → ⊥
+
+-- a search that some start gave
+pub record GivenByStart (t : Step) : Type 0 where
+  pub o : Options
+  pub f0 : Float
+  pub s0 : Float
+  pub given : startOf o f0 s0 ≡ value t
+
+pub record Demand2 : Type 0 where
+  pub search-given : (o : Options) (f0 s0 : Float) (t : Step) → startOf o f0 s0 ≡ value t → ByRules o f0 s0 t
+  -- a job's search is one
+  pub job-given : (bytes : List ℕ) (c : Curve) (t : Step) → BeginSaid bytes (Begun c t) → GivenByStart t
+  -- one answer to any state, made by hand or not, whose limit is a u32 and whose L is no NaN: it is the rules' answer
+  pub any-state : (s : Search) (f g : Float) (r : Step) → AnswerSaid s f g r → s .setup .options .limit < 4294967296
+      → isNan (s .setup .level) ≡ false → Follows s f g r

@@ -1,4 +1,4 @@
--- Demand 3: the bracket, the bounds and the counts, of a Hager-Zhang search that `start` gave, t, for every list of answers.
+-- Demand 3: the bracket, the bounds and the counts, of every Hager-Zhang search that `start` gave and every list of answers.
 -- Its words stand in rules/specs/Iterations.antt. (Backtracking: specs/Backtracking.antt.)
 use Prim.Native.Nat.{ℕ, _+_, _*_, _≤_}
 use mathlib.Core.Path.{_≡_}
@@ -6,6 +6,7 @@ use mathlib.Core.Bool.{true}
 use mathlib.Core.List.{List, _∷_}
 use lib.ListN.{length}
 use lib.Ieee.{Float}
+use Rattle.numbers.specs.Results.{value}
 use Rattle.outcomes.specs.Outcomes.{limit, ends}
 use Rattle.outcomes.specs.Asking.{Reply}
 use Rattle.rules.specs.declared.Point.{Point}
@@ -16,6 +17,7 @@ use Rattle.rules.specs.Rules.{point, Last, Report, last, iterationsIn}
 use Rattle.rules.specs.Iterations.{Premise, Bracketed, Within, Finished, Moves}
 use Rattle.hagerzhang.specs.declared.Search.{Search}
 use Rattle.hagerzhang.specs.declared.Step.{Step}
+use Rattle.hagerzhang.specs.Machine.{startOf}
 use Rattle.hagerzhang.specs.Meaning.{report, isOver}
 use Rattle.demands.specs.Runs.{
   reachedBy,
@@ -35,6 +37,8 @@ pub record AtLimit (n : ℕ) (x : Float) (held : Report) : Type 0 where
   pub iterations : p .iterations ≡ n
   pub best : p .best .x ≡ x
 
+-- ---- a search t that `start` gave for the options o, and the cost f0 and slope s0 at step 0
+
 module _ (o : Options) (f0 s0 : Float) (t : Step) where
   abbrev s : Setup
   s = setupOf o f0 s0
@@ -49,7 +53,7 @@ module _ (o : Options) (f0 s0 : Float) (t : Step) where
   abbrev high-end : Reply → Point
   high-end y = point (o .params .max) (y .0) (y .1)
 
-  pub record Demand3 : Type 0 where
+  pub record Bounded : Type 0 where
     -- "Let the answered starting ends have low slope < 0, low cost <= L .. and high slope >= 0. Then after each finished
     -- iteration the bracket meets the same three, low step < high step": whatever bracket is held after any answers
     pub bracket-stays : (ya yb yc : Reply) (ys : List Reply) → Premise (s .level) (low-end ya) (high-end yb)
@@ -87,3 +91,6 @@ module _ (o : Options) (f0 s0 : Float) (t : Step) where
         → AtLimit (o .limit) x (report (reachedBy b (one-more ys y)))
     -- an answer that is not finite is at most one
     pub non-finite-once : (ys : List Reply) → notFiniteBy b ys ≤ 1
+
+pub record Demand3 : Type 0 where
+  pub search-given : (o : Options) (f0 s0 : Float) (t : Step) → startOf o f0 s0 ≡ value t → Bounded o f0 s0 t
