@@ -8,3 +8,4 @@ pub mod Bounds
 pub mod Demand3
 pub mod Best
 pub mod TheRust
+pub mod Examples

@@ -63,16 +63,16 @@ options B = record {
   limit = 100;
 }
 
-abbrev setup : ℕ → Setup
+abbrev pub setup : ℕ → Setup
 setup B = record { options = options B; f0 = whole 1; s0 = minus (whole 2); level = whole 1 }
 
-abbrev a : Point
+abbrev pub a : Point
 a = point (whole 0) (whole 1) (minus (whole 2))
 
 abbrev b : Point
 b = point (whole 4) (whole 9) (whole 6)
 
-abbrev ab : Bracket
+abbrev pub ab : Bracket
 ab = bracket a b
 
 -- what an update or an iteration comes to: a refusal's number, or a bracket
