@@ -1,5 +1,5 @@
--- What closes the needs of branching code against a definition by tests: `search tests` follows the tests that led to a return. And what is known of a
--- choice. Assumes nothing.
+-- What closes the needs of branching code against a definition by tests: `search tests` follows the tests that led to a
+-- return. And what is known of a choice. Assumes nothing.
 use mathlib.Core.Path.{_≡_, refl, sym, _∙_}
 use mathlib.Core.Bool.{Bool, true, false, not, cond, _&&_, false≢true}
 use borrow.Author.Tests.{not-true, not-false, lt-ltb, le-ltb, le-leb, lt-leb}
@@ -27,7 +27,8 @@ pub either : {X A : Type 0} (h : X → A) (b : Bool) (x y : X) (v : A) → h x �
 either h true x y v p q = p
 either h false x y v p q = q
 
-pub by-test : {X A : Type 0} (h : X → A) (b : Bool) (x y : X) (v w : A) → h x ≡ v → h y ≡ w → h (cond b x y) ≡ cond b v w
+pub by-test : {X A : Type 0} (h : X → A) (b : Bool) (x y : X) (v w : A) → h x ≡ v → h y ≡ w
+    → h (cond b x y) ≡ cond b v w
 by-test h true x y v w p q = p
 by-test h false x y v w p q = q
 

@@ -1,4 +1,5 @@
--- What is told of an outcome tells the outcome: 01's numbers tell the refusals apart, and its words the verdicts. Assumes nothing.
+-- What is told of an outcome tells the outcome: 01's numbers tell the refusals apart, and its words the verdicts.
+-- Assumes nothing.
 use mathlib.Core.Path.{_≡_, refl, ap}
 use mathlib.Core.Bool.{cond}
 use Prim.Native.Nat.{ℕ}
@@ -7,10 +8,32 @@ use Rattle.numbers.proofs.Determined.{determined}
 use Rattle.outcomes.specs.declared.Verdict.{Verdict}
 use Rattle.outcomes.specs.declared.Verdict.the-variants.{Met, Wolfe, Approximate}
 use Rattle.outcomes.specs.declared.Refusal.{Refusal}
-use Rattle.outcomes.specs.declared.Refusal.the-variants.{SuppliedNotFinite, OutOfRange, ResultNotFinite, StepNotFinite, BudgetSpent, StepNotBetween, AlreadyOver}
+use Rattle.outcomes.specs.declared.Refusal.the-variants.{
+  SuppliedNotFinite,
+  OutOfRange,
+  ResultNotFinite,
+  StepNotFinite,
+  BudgetSpent,
+  StepNotBetween,
+  AlreadyOver,
+}
 use Rattle.outcomes.specs.declared.Outcome.{Outcome}
 use Rattle.outcomes.specs.declared.Outcome.the-variants.{Ask, Stop, Limit, Refused}
-use Rattle.outcomes.specs.Outcomes.{Word, met, wolfe, approximate, stop, limit, refusal, Told, asks, ends, numberOf, verdictWord, told}
+use Rattle.outcomes.specs.Outcomes.{
+  Word,
+  met,
+  wolfe,
+  approximate,
+  stop,
+  limit,
+  refusal,
+  Told,
+  asks,
+  ends,
+  numberOf,
+  verdictWord,
+  told,
+}
 
 pub withNumber : ℕ → Refusal
 withNumber n =

@@ -1,5 +1,6 @@
--- A search that ends within n answers, whatever they are, and in which an answer that is not finite is refused (2) and the last: it is over after n answers, accepts
--- at most n, and of those that it is given while it asks at most one is not finite. Assumes nothing.
+-- A search that ends within n answers, whatever they are, and in which an answer that is not finite is refused (2) and
+-- the last: it is over after n answers, accepts at most n, and of those that it is given while it asks at most one is
+-- not finite. Assumes nothing.
 use mathlib.Core.Path.{_≡_, refl, sym, _∙_}
 use mathlib.Core.Bool.{Bool, true, false, cond, not, true≢false}
 use mathlib.Core.List.{List, [], _∷_}
@@ -10,12 +11,28 @@ use lib.ListN.{length}
 use lib.Ieee.{Float}
 use Rattle.outcomes.proofs.Machines.{none-more}
 use Rattle.outcomes.specs.Outcomes.{refusal, answerNotFinite}
-use Rattle.outcomes.specs.Asking.{ask, end, Search, Over, over, keeping, question, Reply, respond, reported, isOver, after, accepted, notFinite}
+use Rattle.outcomes.specs.Asking.{
+  ask,
+  end,
+  Search,
+  Over,
+  over,
+  keeping,
+  question,
+  Reply,
+  respond,
+  reported,
+  isOver,
+  after,
+  accepted,
+  notFinite,
+}
 
 pub data Ends {K : Type 0} (finite : Float → Float → Bool) : ℕ → Search K → Type 0 where
   at-end : {n : ℕ} {o : Over K} → Ends finite n (end o)
   at-ask : {n : ℕ} {k : K} {x : Float} {then : Float → Float → Search K}
-      → ((f g : Float) → finite f g ≡ false → then f g ≡ over k (refusal (answerNotFinite f g))) → ((f g : Float) → Ends finite n (then f g)) → Ends finite (suc n) (ask k x then)
+      → ((f g : Float) → finite f g ≡ false → then f g ≡ over k (refusal (answerNotFinite f g)))
+      → ((f g : Float) → Ends finite n (then f g)) → Ends finite (suc n) (ask k x then)
 
 one-at-most : (b : Bool) (m n : ℕ) → m ≤ n → cond b 1 0 + m ≤ suc n
 one-at-most true m n h = omega arith
@@ -37,26 +54,33 @@ module _ {K : Type 0} {finite : Float → Float → Bool} where
   ends-if true h k = h
   ends-if false h k = k
 
-  pub question-ends : {n : ℕ} (k : K) (x : Float) (then : Float → Float → Search K) → ((f g : Float) → Ends finite n (then f g)) → Ends finite (suc n) (question finite (keeping k) k x then)
-  question-ends k x then e = at-ask {k = k} {then = λ f g. cond (finite f g) (then f g) (over k (refusal (answerNotFinite f g)))} (λ f g u. rw u) (λ f g. ends-if (finite f g) (e f g) at-end)
+  pub question-ends : {n : ℕ} (k : K) (x : Float) (then : Float → Float → Search K)
+      → ((f g : Float) → Ends finite n (then f g)) → Ends finite (suc n) (question finite (keeping k) k x then)
+  question-ends k x then e =
+      at-ask {k = k} {then = λ f g. cond (finite f g) (then f g) (over k (refusal (answerNotFinite f g)))}
+      (λ f g u. rw u) (λ f g. ends-if (finite f g) (e f g) at-end)
 
-  pub ends-over : {n : ℕ} {r : Search K} → Ends finite n r → (ys : List Reply) → n ≤ length ys → isOver (after r ys) ≡ true
+  pub ends-over : {n : ℕ} {r : Search K} → Ends finite n r → (ys : List Reply) → n ≤ length ys
+      → isOver (after r ys) ≡ true
   unfolding isOver after respond
   ends-over (at-end {o = o}) ys h = stays-over o ys
   ends-over (at-ask u e) [] h = absurd (not-suc-le-zero h)
   ends-over (at-ask u e) (y ∷ ys) h = ends-over (e (y .0) (y .1)) ys (le-of-suc-le-suc h)
 
   -- whichever answers are counted
-  pub ends-accepted : (counted : Float → Float → Bool) {n : ℕ} {r : Search K} → Ends finite n r → (ys : List Reply) → accepted counted r ys ≤ n
+  pub ends-accepted : (counted : Float → Float → Bool) {n : ℕ} {r : Search K} → Ends finite n r → (ys : List Reply)
+      → accepted counted r ys ≤ n
   unfolding accepted
   ends-accepted counted at-end [] = omega arith
   ends-accepted counted at-end (y ∷ ys) = omega arith
   ends-accepted counted (at-ask u e) [] = omega arith
-  ends-accepted counted (at-ask u e) (y ∷ ys) = one-at-most (counted (y .0) (y .1)) _ _ (ends-accepted counted (e (y .0) (y .1)) ys)
+  ends-accepted counted (at-ask u e) (y ∷ ys) =
+      one-at-most (counted (y .0) (y .1)) _ _ (ends-accepted counted (e (y .0) (y .1)) ys)
 
   -- ---- an answer that is not finite
 
-  pub non-finite-last : {n : ℕ} {r : Search K} → Ends finite n r → (ys : List Reply) (f g : Float) → isOver (after r ys) ≡ false → finite f g ≡ false
+  pub non-finite-last : {n : ℕ} {r : Search K} → Ends finite n r → (ys : List Reply) (f g : Float)
+      → isOver (after r ys) ≡ false → finite f g ≡ false
       → respond (after r ys) f g ≡ over (reported (after r ys)) (refusal (answerNotFinite f g))
   unfolding isOver after respond reported
   non-finite-last (at-end {o = o}) ys f g asking u = absurd (true≢false (sym (stays-over o ys) ∙ asking))
@@ -68,7 +92,8 @@ module _ {K : Type 0} {finite : Float → Float → Bool} where
   non-finite-once at-end [] = omega arith
   non-finite-once at-end (y ∷ ys) = omega arith
   non-finite-once (at-ask u e) [] = omega arith
-  non-finite-once (at-ask {then = then} u e) (y ∷ ys) = by (finite (y .0) (y .1)) refl (non-finite-once (e (y .0) (y .1)) ys)
+  non-finite-once (at-ask {then = then} u e) (y ∷ ys) =
+      by (finite (y .0) (y .1)) refl (non-finite-once (e (y .0) (y .1)) ys)
     where
       by : (b : Bool) → finite (y .0) (y .1) ≡ b → accepted (λ f g. not (finite f g)) (then (y .0) (y .1)) ys ≤ 1
           → cond (not b) 1 0 + accepted (λ f g. not (finite f g)) (then (y .0) (y .1)) ys ≤ 1

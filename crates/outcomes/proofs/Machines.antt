@@ -1,5 +1,5 @@
--- From one answer to any list: a machine each of whose steps is the rules' step tells what the rules tell, reports what they report, and counts what
--- they accept, for every list of answers. Once for every search. Assumes nothing.
+-- From one answer to any list: a machine each of whose steps is the rules' step tells what the rules tell, reports what
+-- they report, and counts what they accept, for every list of answers. Once for every search. Assumes nothing.
 use mathlib.Core.Path.{_≡_, refl, ap, ap₂, _∙_}
 use mathlib.Core.Bool.{Bool, true, false, cond, not, _&&_}
 use mathlib.Core.List.{List, [], _∷_}
@@ -10,7 +10,24 @@ use lib.Ieee.{Float}
 use borrow.Author.Tests.{lt-ltb}
 use Rattle.outcomes.specs.Outcomes.{Told}
 use Rattle.outcomes.specs.Counters.{counted}
-use Rattle.outcomes.specs.Asking.{ask, end, Search, Over, Reply, respond, shown, reported, isOver, onceTold, outcomes, after, accepted, reached, played, tallied}
+use Rattle.outcomes.specs.Asking.{
+  ask,
+  end,
+  Search,
+  Over,
+  Reply,
+  respond,
+  shown,
+  reported,
+  isOver,
+  onceTold,
+  outcomes,
+  after,
+  accepted,
+  reached,
+  played,
+  tallied,
+}
 
 module _ {K : Type 0} where
   responds : (r : Search K) (f g : Float) → respond (onceTold r) f g ≡ respond r f g
@@ -24,7 +41,8 @@ module _ {K : Type 0} where
   same-outcomes r (y ∷ ys) = ap (λ (q : Search K). shown q ∷ outcomes q ys) (responds r (y .0) (y .1))
 
   -- anything that does not tell an ended search from one that has told so
-  same-after : {A : Type 0} (h : Search K → A) → ((r : Search K) → h (onceTold r) ≡ h r) → (r : Search K) (ys : List Reply) → h (after (onceTold r) ys) ≡ h (after r ys)
+  same-after : {A : Type 0} (h : Search K → A) → ((r : Search K) → h (onceTold r) ≡ h r)
+      → (r : Search K) (ys : List Reply) → h (after (onceTold r) ys) ≡ h (after r ys)
   unfolding after
   same-after h e r [] = e r
   same-after h e r (y ∷ ys) = ap (λ (q : Search K). h (after q ys)) (responds r (y .0) (y .1))
@@ -39,7 +57,8 @@ module _ {K : Type 0} where
   over-rests (ask k x then) = refl
   over-rests (end o) = refl
 
-  same-accepted : (finite : Float → Float → Bool) (r : Search K) (ys : List Reply) → accepted finite (onceTold r) ys ≡ accepted finite r ys
+  same-accepted : (finite : Float → Float → Bool) (r : Search K) (ys : List Reply)
+      → accepted finite (onceTold r) ys ≡ accepted finite r ys
   unfolding accepted onceTold
   same-accepted finite (ask k x then) ys = refl
   same-accepted finite (end o) [] = refl
@@ -54,7 +73,8 @@ module _ {K : Type 0} where
   seen r = (onceTold r, shown r)
 
   -- a choice means the choice of what each means
-  pub picks : {A : Type 0} (d : A → Seen K) (b : Bool) (x y : A) (m n : Search K) → d x ≡ seen m → d y ≡ seen n → d (cond b x y) ≡ seen (cond b m n)
+  pub picks : {A : Type 0} (d : A → Seen K) (b : Bool) (x y : A) (m n : Search K) → d x ≡ seen m → d y ≡ seen n
+      → d (cond b x y) ≡ seen (cond b m n)
   picks d true x y m n p q = p
   picks d false x y m n p q = q
 
@@ -79,14 +99,16 @@ unfolding counted
 counts-on n l h k = rw (lt-ltb n 4294967295 (omega arith))
 
 -- a search that is over accepts nothing
-pub none-more : {K : Type 0} (o : Over K) (finite : Float → Float → Bool) (ys : List Reply) → accepted finite (end o) ys ≡ 0
+pub none-more : {K : Type 0} (o : Over K) (finite : Float → Float → Bool) (ys : List Reply)
+    → accepted finite (end o) ys ≡ 0
 unfolding accepted
 none-more o finite [] = refl
 none-more o finite (y ∷ ys) = refl
 
 -- ---- any list of answers
 -- `Fit` is what a state has to meet for its steps to be the rules', and what its steps keep
-module _ {S K : Type 0} (meant : S → Search K) (next : S → Float → Float → S) (says : S → Float → Float → Told) (Fit : S → Type 0)
+module _ {S K : Type 0} (meant : S → Search K) (next : S → Float → Float → S) (says : S → Float → Float → Told)
+    (Fit : S → Type 0)
     (fit-next : (s : S) → Fit s → (f g : Float) → Fit (next s f g))
     (leaves : (s : S) → Fit s → (f g : Float) → meant (next s f g) ≡ onceTold (respond (meant s) f g))
     (tells : (s : S) → Fit s → (f g : Float) → says s f g ≡ shown (respond (meant s) f g)) where
@@ -95,10 +117,12 @@ module _ {S K : Type 0} (meant : S → Search K) (next : S → Float → Float �
   plays s v [] = refl
   plays s v (y ∷ ys) =
       ap₂ _∷_ (tells s v (y .0) (y .1))
-      (plays (next s (y .0) (y .1)) (fit-next s v (y .0) (y .1)) ys ∙ ap (λ (r : Search K). outcomes r ys) (leaves s v (y .0) (y .1)) ∙ same-outcomes (respond (meant s) (y .0) (y .1)) ys)
+      (plays (next s (y .0) (y .1)) (fit-next s v (y .0) (y .1)) ys
+      ∙ ap (λ (r : Search K). outcomes r ys) (leaves s v (y .0) (y .1))
+      ∙ same-outcomes (respond (meant s) (y .0) (y .1)) ys)
 
-  pub reaches : {A : Type 0} (h : Search K → A) → ((r : Search K) → h (onceTold r) ≡ h r) → (s : S) → Fit s → (ys : List Reply)
-      → h (meant (reached next s ys)) ≡ h (after (meant s) ys)
+  pub reaches : {A : Type 0} (h : Search K → A) → ((r : Search K) → h (onceTold r) ≡ h r) → (s : S) → Fit s
+      → (ys : List Reply) → h (meant (reached next s ys)) ≡ h (after (meant s) ys)
   unfolding reached after
   reaches h e s v [] = refl
   reaches h e s v (y ∷ ys) =
@@ -108,7 +132,8 @@ module _ {S K : Type 0} (meant : S → Search K) (next : S → Float → Float �
 
   -- the answers that pass a test while the machine asks are those that pass it while the rules ask
   module _ (asking : S → Bool) (same : (s : S) → asking s ≡ not (isOver (meant s))) (test : Float → Float → Bool) where
-    counts-step : (b t : Bool) (r : Search K) (y : Reply) (ys : List Reply) → b ≡ not (isOver r) → t ≡ test (y .0) (y .1)
+    counts-step : (b t : Bool) (r : Search K) (y : Reply) (ys : List Reply) → b ≡ not (isOver r)
+        → t ≡ test (y .0) (y .1)
         → cond (b && t) 1 0 + accepted test (respond r (y .0) (y .1)) ys ≡ accepted test r (y ∷ ys)
     unfolding accepted respond isOver
     counts-step b t (ask k x then) y ys e h = rw (e, h)
@@ -128,7 +153,8 @@ module _ {S K : Type 0} (meant : S → Search K) (next : S → Float → Float �
   -- a counter that each accepted answer raises by one, as long as it is below the largest u32
   module _ (finite : Float → Float → Bool) (count : S → ℕ)
       (adds : (s : S) → Fit s → (f g : Float) (ys : List Reply) → count s < 4294967295
-      → count (next s f g) + accepted finite (respond (meant s) f g) ys ≡ count s + accepted finite (meant s) ((f, g) ∷ ys)) where
+      → count (next s f g) + accepted finite (respond (meant s) f g) ys
+      ≡ count s + accepted finite (meant s) ((f, g) ∷ ys)) where
     none : (r : Search K) → accepted finite r [] ≡ 0
     unfolding accepted
     none r = refl
@@ -139,8 +165,10 @@ module _ {S K : Type 0} (meant : S → Search K) (next : S → Float → Float �
     counts s v [] h = let z : accepted finite (meant s) [] ≡ 0 = none (meant s) in omega arith
     counts s v (y ∷ ys) h =
         let n = next s (y .0) (y .1) in
-        let a : count n + accepted finite (respond (meant s) (y .0) (y .1)) ys ≡ count s + accepted finite (meant s) (y ∷ ys) = adds s v (y .0) (y .1) ys (omega arith) in
+        let a : count n + accepted finite (respond (meant s) (y .0) (y .1)) ys
+        ≡ count s + accepted finite (meant s) (y ∷ ys) = adds s v (y .0) (y .1) ys (omega arith) in
         let m : accepted finite (meant n) ys ≡ accepted finite (respond (meant s) (y .0) (y .1)) ys =
-        ap (λ (r : Search K). accepted finite r ys) (leaves s v (y .0) (y .1)) ∙ same-accepted finite (respond (meant s) (y .0) (y .1)) ys in
+        ap (λ (r : Search K). accepted finite r ys) (leaves s v (y .0) (y .1))
+        ∙ same-accepted finite (respond (meant s) (y .0) (y .1)) ys in
         let i = counts n (fit-next s v (y .0) (y .1)) ys (omega arith) in
         omega arith

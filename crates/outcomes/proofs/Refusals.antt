@@ -1,4 +1,5 @@
--- A table of refusals read both ways: a number is given exactly when its row is the first whose condition holds. Once for every table. Assumes nothing.
+-- A table of refusals read both ways: a number is given exactly when its row is the first whose condition holds. Once
+-- for every table. Assumes nothing.
 use Prim.Native.Nat.{ℕ}
 use mathlib.Core.Path.{_≡_, refl, sym, ap}
 use mathlib.Core.Bool.{Bool, true, false, cond}
@@ -19,7 +20,8 @@ unfolding given
 first-given (this e c) = rw (c, e)
 first-given (later c f) = rw c (first-given f)
 
-by-row : (n m : ℕ) (c : Bool) (rows : List Row) → (given rows ≡ some n → First n rows) → (b : Bool) → c ≡ b → cond b (some m) (given rows) ≡ some n → First n ((m, c) ∷ rows)
+by-row : (n m : ℕ) (c : Bool) (rows : List Row) → (given rows ≡ some n → First n rows) → (b : Bool) → c ≡ b
+    → cond b (some m) (given rows) ≡ some n → First n ((m, c) ∷ rows)
 by-row n m c rows go true t e = this (Option·some-injective m n e) t
 by-row n m c rows go false t e = later t (go e)
 
@@ -49,8 +51,8 @@ module _ {A : Type 0} where
   same-value : (a b : A) → value a ≡ value b → a ≡ b
   same-value a b e = cc
 
-  by-row-passed : (r : Row) (rows : List Row) (a b : A) → ((refuse rows else a) ≡ value b → Passed rows × (a ≡ b)) → (c : Bool) → r .1 ≡ c
-      → cond c (refused (r .0)) (refuse rows else a) ≡ value b → Passed (r ∷ rows) × (a ≡ b)
+  by-row-passed : (r : Row) (rows : List Row) (a b : A) → ((refuse rows else a) ≡ value b → Passed rows × (a ≡ b))
+      → (c : Bool) → r .1 ≡ c → cond c (refused (r .0)) (refuse rows else a) ≡ value b → Passed (r ∷ rows) × (a ≡ b)
   by-row-passed r rows a b go true t e = absurd (not-refused (r .0) b e)
   by-row-passed r rows a b go false t e = let p = go e in (and t (p .0), p .1)
 

@@ -1,13 +1,23 @@
--- 01, "What changes shape": "the search hands out a request and is given the answer .. One ask covers cost and slope." The
--- rules of a search are written as a run: it asks for cost and slope at a step and goes on by the answer, until it has a
--- result.
+-- 01, "What changes shape": "the search hands out a request and is given the answer .. One ask covers cost and slope."
+-- The rules of a search are written as a run: it asks for cost and slope at a step and goes on by the answer, until it
+-- has a result.
 use Prim.Native.Nat.{ℕ, _+_}
 use mathlib.Core.Bool.{Bool, true, false, cond, not, _&&_}
 use mathlib.Core.List.{List, [], _∷_}
 use mathlib.Core.Option.{Option, some, none}
 use lib.Ieee.{Float}
 use Rattle.numbers.specs.Results.{Result, value, refused}
-use Rattle.outcomes.specs.Outcomes.{Ending, refusal, Told, asks, ends, Why, answerNotFinite, alreadyOver, numbered}
+use Rattle.outcomes.specs.Outcomes.{
+  Ending,
+  refusal,
+  Told,
+  asks,
+  ends,
+  Why,
+  answerNotFinite,
+  alreadyOver,
+  numbered,
+}
 
 -- K is what is reported while an answer is awaited, R what the run comes to
 pub data Run (K R : Type 0) : Type 0 where
@@ -57,8 +67,8 @@ module _ {K : Type 0} where
   isOver (ask k x then) = false
   isOver (end o) = true
 
-  -- what is left of a search once it has told its outcome: where it ended, it refuses whatever is said to it (8). A state
-  -- of the machine stands for this
+  -- what is left of a search once it has told its outcome: where it ended, it refuses whatever is said to it (8). A
+  -- state of the machine stands for this
   unfoldable pub onceTold : Search K → Search K
   onceTold (ask k x then) = ask k x then
   onceTold (end o) = over (o .keeps) (refusal alreadyOver)

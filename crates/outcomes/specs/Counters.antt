@@ -1,5 +1,6 @@
--- The machines' counters: they count up, and stop at the largest u32. 01's rules count by plain + 1, and are checked without this; for each search theorems say that its
--- counters hold what the rules count, so that no search that was started gets there.
+-- The machines' counters: they count up, and stop at the largest u32. 01's rules count by plain + 1, and are checked
+-- without this; for each search theorems say that its counters hold what the rules count, so that no search that was
+-- started gets there.
 use Prim.Native.Nat.{ℕ, _+_}
 use mathlib.Core.Bool.{cond}
 use lib.Dec.{ltb}

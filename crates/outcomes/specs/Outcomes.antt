@@ -1,5 +1,6 @@
--- 01, "What changes shape": "An outcome is an ask carrying its step, a stop with its verdict and step, a limit, or a refusal." Here as 01
--- tells it: the verdict by its word, a refusal by its number; and what each case of the code's outcome tells.
+-- 01, "What changes shape": "An outcome is an ask carrying its step, a stop with its verdict and step, a limit, or a
+-- refusal." Here as 01 tells it: the verdict by its word, a refusal by its number; and what each case of the code's
+-- outcome tells.
 use Prim.Native.Nat.{ℕ}
 use lib.Ieee.{Float}
 use Rattle.outcomes.specs.declared.Verdict.{Verdict}
