@@ -1,5 +1,5 @@
--- Best is one of the three points: for finite costs one of 01's three tests holds, so what stood there before never shows (`best-is-one`). From the
--- order of finite floats. Assumes nothing.
+-- Best is one of the three points: for finite costs one of 01's three tests holds, so what stood there before never
+-- shows (`best-is-one`). From the order of finite floats. Assumes nothing.
 use mathlib.Core.Path.{_≡_, refl}
 use mathlib.Core.Logic.{_⊎_, inl, inr}
 use mathlib.Core.Bool.{Bool, true, false, cond, _&&_, false≢true}

@@ -1,7 +1,7 @@
--- Demand 3, and the refusals of a running search, for every list of answers: `each-iteration` without a premise (where each end came from, and how many
--- answers it took), `bracket-stays` and `bracket-narrows` under demand 3's three facts of the answered ends; the counts; why each step is asked and
--- each search ended (`asks`, `ends`); that all reported numbers are finite. About 01's rules; the machine reports what they report.
--- Assumes nothing.
+-- Demand 3, and the refusals of a running search, for every list of answers: `each-iteration` without a premise (where
+-- each end came from, and how many answers it took), `bracket-stays` and `bracket-narrows` under demand 3's three facts
+-- of the answered ends; the counts; why each step is asked and each search ended (`asks`, `ends`); that all reported
+-- numbers are finite. About 01's rules; the machine reports what they report. Assumes nothing.
 use mathlib.Core.Path.{_≡_, refl, sym, ap, _∙_, subst}
 use mathlib.Core.Bool.{Bool, true, false, cond, true≢false}
 use mathlib.Core.List.{List, [], _∷_}
@@ -165,7 +165,9 @@ module _ (o : Options) (f0 s0 : Float) (ok : Passed (startRows o f0 s0)) where
   unfolding reported search
   begins = record {
     left = suc (o .limit);
-    arrives = search-arrives s (level-finite o f0 s0 ok) (min-finite o f0 s0 ok) (max-finite o f0 s0 ok) (start-finite o f0 s0 ok);
+    arrives =
+        search-arrives s (level-finite o f0 s0 ok) (min-finite o f0 s0 ok) (max-finite o f0 s0 ok)
+        (start-finite o f0 s0 ok);
     total = omega arith;
     fine = refl;
   }
@@ -181,18 +183,21 @@ module _ (o : Options) (f0 s0 : Float) (ok : Passed (startRows o f0 s0)) where
     stands : Stands s (Steps s) M T asked here
     stands = stands-along s (Steps s) M T ys [] (search s) begins
 
-    -- "each finished iteration": where the next answer y brings the count from p's to one more, q's. No premise: each end is, bit for bit, a former end
-    -- or a step asked in that iteration with its answer
-    each-step : (y : Reply) (p q : Last) → reported here ≡ last p → reported (respond here (y .0) (y .1)) ≡ last q → q .iterations ≡ p .iterations + 1
-        → Steps s p (noted here y asked) q
+    -- "each finished iteration": where the next answer y brings the count from p's to one more, q's. No premise: each
+    -- end is, bit for bit, a former end or a step asked in that iteration with its answer
+    each-step : (y : Reply) (p q : Last) → reported here ≡ last p → reported (respond here (y .0) (y .1)) ≡ last q
+        → q .iterations ≡ p .iterations + 1 → Steps s p (noted here y asked) q
     each-step y p q = each-finished s (Steps s) M T p q asked here y stands
 
-    pub each-iteration : (y : Reply) (p q : Last) → reported here ≡ last p → reported (respond here (y .0) (y .1)) ≡ last q
+    pub each-iteration : (y : Reply) (p q : Last) → reported here ≡ last p
+        → reported (respond here (y .0) (y .1)) ≡ last q
         → q .iterations ≡ p .iterations + 1 → Finished s p (noted here y asked) q
     each-iteration y p q e e' n = each-step y p q e e' n .finished
 
-    -- every answer leaves the report as it was, or is the start's last, or finishes the iteration under way, which is counted
-    pub each-answer : (y : Reply) → Moves (Finished s) (noted here y asked) (reported here) (reported (respond here (y .0) (y .1)))
+    -- every answer leaves the report as it was, or is the start's last, or finishes the iteration under way, which is
+    -- counted
+    pub each-answer : (y : Reply)
+        → Moves (Finished s) (noted here y asked) (reported here) (reported (respond here (y .0) (y .1)))
     each-answer y = only-finished (answer-moves s (Steps s) M T asked here y stands)
       where
         only-finished : {asked : List Point} {k l : Report} → Moves (Steps s) asked k l → Moves (Finished s) asked k l
@@ -200,7 +205,8 @@ module _ (o : Options) (f0 s0 : Float) (ok : Passed (startRows o f0 s0)) where
         only-finished (first i) = first i
         only-finished (one-more i f) = one-more i (f .finished)
 
-    -- "an iteration takes at most 3+3B answers": also one that is not finished, and whether its last answer is finite or not
+    -- "an iteration takes at most 3+3B answers": also one that is not finished, and whether its last answer is finite
+    -- or not
     pub iteration-bounded : length asked ≤ 3 + 3 * o .budget
     iteration-bounded = few-along s (Steps s) M T ys [] (search s) begins (omega arith)
 
@@ -235,9 +241,10 @@ module _ (o : Options) (f0 s0 : Float) (ok : Passed (startRows o f0 s0)) where
     never-unreachable k e = true≢false (no-error (ends k (refusal unreachable) e))
 
     -- 6, "one U3 run has had B answers and the last did not end it": then it is over
-    pub spent-over : (p : Last) (h : Point) (k : Float) → reported here ≡ last p → standing s (p .bracket) asked ≡ some (On h k)
-        → had s (p .bracket) asked ≡ o .budget → isOver here ≡ true
-    spent-over p h k e in-U3 all-had = over-or-asks here (λ x shows. no-more s (p .bracket) asked x h k (asks p x e shows) in-U3 all-had)
+    pub spent-over : (p : Last) (h : Point) (k : Float) → reported here ≡ last p
+        → standing s (p .bracket) asked ≡ some (On h k) → had s (p .bracket) asked ≡ o .budget → isOver here ≡ true
+    spent-over p h k e in-U3 all-had =
+        over-or-asks here (λ x shows. no-more s (p .bracket) asked x h k (asks p x e shows) in-U3 all-had)
 
   -- ---- the bracket: the answers at min, max and the start step, whatever they are
   module _ (ya yb yc : Reply) where
@@ -262,13 +269,16 @@ module _ (o : Options) (f0 s0 : Float) (ok : Passed (startRows o f0 s0)) where
       by-c true = go
       by-c false = refuses _
 
-      by-b : (t : Bool) → Q (respond (cond t (askStart s w) (over noneYet (refusal (answerNotFinite (yb .0) (yb .1))))) (yc .0) (yc .1))
+      by-b : (t : Bool)
+          → Q (respond (cond t (askStart s w) (over noneYet (refusal (answerNotFinite (yb .0) (yb .1)))))
+          (yc .0) (yc .1))
       unfolding respond askStart
       by-b true = by-c (answerFinite (yc .0) (yc .1))
       by-b false = refuses alreadyOver
 
       by-a : (t : Bool)
-          → Q (respond (respond (cond t (askHigh s low-end) (over noneYet (refusal (answerNotFinite (ya .0) (ya .1))))) (yb .0) (yb .1)) (yc .0) (yc .1))
+          → Q (respond (respond (cond t (askHigh s low-end) (over noneYet (refusal (answerNotFinite (ya .0) (ya .1)))))
+          (yb .0) (yb .1)) (yc .0) (yc .1))
       unfolding respond askHigh
       by-a true = by-b (answerFinite (yb .0) (yb .1))
       by-a false = refuses alreadyOver
@@ -282,30 +292,38 @@ module _ (o : Options) (f0 s0 : Float) (ok : Passed (startRows o f0 s0)) where
       starts-bracketed : Bracketed (s .level) w
       starts-bracketed = record { three = premise; in-order = low-below-high o f0 s0 ok }
 
-      holds-moved : (asked : List Point) (k l : Report) → Moves (Steps s) asked k l → Holds (s .level) k → Holds (s .level) l
+      holds-moved : (asked : List Point) (k l : Report) → Moves (Steps s) asked k l → Holds (s .level) k
+          → Holds (s .level) l
       holds-moved asked k l as-before h = h
       holds-moved asked k l (one-more {p = p} i f) h = holds (f .sound .stays (bracketed (last p) p h refl))
 
-      holds-along : (ys : List Reply) (asked : List Point) (r : Search Report) → Stands s (Steps s) M T asked r → Holds (s .level) (reported r)
-          → Holds (s .level) (reported (after r ys))
+      holds-along : (ys : List Reply) (asked : List Point) (r : Search Report) → Stands s (Steps s) M T asked r
+          → Holds (s .level) (reported r) → Holds (s .level) (reported (after r ys))
       unfolding after
       holds-along [] asked r a h = h
       holds-along (y ∷ ys) asked r a h =
           holds-along ys (kept r y asked) (respond r (y .0) (y .1)) (stands-after s (Steps s) M T asked r y a)
-          (holds-moved (noted r y asked) (reported r) (reported (respond r (y .0) (y .1))) (answer-moves s (Steps s) M T asked r y a) h)
+          (holds-moved (noted r y asked) (reported r) (reported (respond r (y .0) (y .1)))
+          (answer-moves s (Steps s) M T asked r y a) h)
 
-      -- "after each finished iteration the bracket meets the same three, low step < high step": whatever bracket is reported
-      pub bracket-stays : (ys : List Reply) (p : Last) → reported (after (search s) (ya ∷ yb ∷ yc ∷ ys)) ≡ last p → Bracketed (s .level) (p .bracket)
+      -- "after each finished iteration the bracket meets the same three, low step < high step": whatever bracket is
+      -- reported
+      pub bracket-stays : (ys : List Reply) (p : Last) → reported (after (search s) (ya ∷ yb ∷ yc ∷ ys)) ≡ last p
+          → Bracketed (s .level) (p .bracket)
       unfolding after reported
       bracket-stays ys p =
-          either-begun (λ r. (asked : List Point) → Stands s (Steps s) M T asked r → reported (after r ys) ≡ last p → Bracketed (s .level) (p .bracket))
+          either-begun
+          (λ r. (asked : List Point) → Stands s (Steps s) M T asked r → reported (after r ys) ≡ last p
+          → Bracketed (s .level) (p .bracket))
           (λ asked a e.
           let begun : Holds (s .level) (reported on) = rw (rounds-report s (o .limit) w c 0) (holds starts-bracketed) in
           bracketed (reported (after on ys)) p (holds-along ys asked on a begun) e)
-          (λ why asked a e. absurd (none-finished _ p (keeps-none (record { keeps = noneYet; by = refusal why }) ys refl) e))
+          (λ why asked a e.
+          absurd (none-finished _ p (keeps-none (record { keeps = noneYet; by = refusal why }) ys refl) e))
           (under-way [] (search s) (ya ∷ yb ∷ yc ∷ [])) (stands (ya ∷ yb ∷ yc ∷ []))
 
       -- "it lies within the former bracket"
       pub bracket-narrows : (ys : List Reply) (y : Reply) (p q : Last) → let r = after (search s) (ya ∷ yb ∷ yc ∷ ys) in
-          reported r ≡ last p → reported (respond r (y .0) (y .1)) ≡ last q → q .iterations ≡ p .iterations + 1 → Within (p .bracket) (q .bracket)
+          reported r ≡ last p → reported (respond r (y .0) (y .1)) ≡ last q → q .iterations ≡ p .iterations + 1
+          → Within (p .bracket) (q .bracket)
       bracket-narrows ys y p q e e' n = each-step (ya ∷ yb ∷ yc ∷ ys) y p q e e' n .sound .inside (bracket-stays ys p e)

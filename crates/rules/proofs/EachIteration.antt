@@ -1,5 +1,5 @@
--- Demand 3 and the refusals over the whole search, said of each finished iteration, each step that is asked and each ending (`search-arrives`): by one
--- pass through the flow of the rules. Assumes nothing.
+-- Demand 3 and the refusals over the whole search, said of each finished iteration, each step that is asked and each
+-- ending (`search-arrives`): by one pass through the flow of the rules. Assumes nothing.
 use mathlib.Core.Path.{_≡_, refl, sym, ap, _∙_, subst}
 use mathlib.Core.Bool.{Bool, true, false, cond, _&&_}
 use mathlib.Core.List.{List, [], _∷_}
@@ -124,30 +124,35 @@ module _ (s : Setup) (fine : finite (s .level) ≡ true) (P : Last → List Poin
   abbrev At-bracket : List Point → Bracket → Type 0
   At-bracket asked u = standing s w asked ≡ some (To u)
 
-  one-more-asked : (asked : List Point) (d : Point) {o : Option Came} → standing s w asked ≡ o → standing s w (d ∷ asked) ≡ led s o d
+  one-more-asked : (asked : List Point) (d : Point) {o : Option Came} → standing s w asked ≡ o
+      → standing s w (d ∷ asked) ≡ led s o d
   unfolding standing
   one-more-asked asked d e = ap (λ (o : Option Came). led s o d) e
 
-  one-more-had : (asked : List Point) (d : Point) {o : Option Came} → standing s w asked ≡ o → had s w (d ∷ asked) ≡ counts o (had s w asked)
+  one-more-had : (asked : List Point) (d : Point) {o : Option Came} → standing s w asked ≡ o
+      → had s w (d ∷ asked) ≡ counts o (had s w asked)
   unfolding had
   one-more-had asked d e = ap (λ (o : Option Came). counts o (had s w asked)) e
 
-  asking-arrives : (asked : List Point) (x : Float) (then : Point → Search Report) (then' : Point → Alone) → length asked < 3 + 3 * B
-      → Asks s w asked x → There asked (asking s inl k x then')
+  asking-arrives : (asked : List Point) (x : Float) (then : Point → Search Report) (then' : Point → Alone)
+      → length asked < 3 + 3 * B → Asks s w asked x → There asked (asking s inl k x then')
       → ((f g : Float) → finite f ≡ true → finite g ≡ true → There (point x f g ∷ asked) (then' (point x f g))
       → Here (point x f g ∷ asked) (then (point x f g)))
       → Here asked (asking s (keeping k) k x then)
   asking-arrives asked x then then' room why at go =
-      goes-on {p = p} {then = λ f g. cond (answerFinite f g) (then (point x f g)) (over k (refusal (answerNotFinite f g)))} room why (λ f g u. rw u)
+      goes-on {p = p}
+      {then = λ f g. cond (answerFinite f g) (then (point x f g)) (over k (refusal (answerNotFinite f g)))} room why
+      (λ f g u. rw u)
       (λ f g. if-so (Here (point x f g ∷ asked)) (answerFinite f g)
       (λ e. go f g (and-first (finite f) (finite g) e) (and-second (finite f) (finite g) e)
-      (subst (λ (t : Bool). There (point x f g ∷ asked) (cond t (then' (point x f g)) (end (inl (answerNotFinite f g))))) e (then-asked at f g)))
+      (subst (λ (t : Bool). There (point x f g ∷ asked)
+      (cond t (then' (point x f g)) (end (inl (answerNotFinite f g))))) e (then-asked at f g)))
       (λ e. ended (words.not-finite {d = point x f g} e)))
 
   trial-arrives : (asked : List Point) (u : Bracket) (x : Float) (then : Point → Search Report) (then' : Point → Alone)
       → length asked < 3 + 3 * B → At-bracket asked u → There asked (trial s inl k x then')
-      → (finite x ≡ true → (f g : Float) → finite f ≡ true → finite g ≡ true → There (point x f g ∷ asked) (then' (point x f g))
-      → Here (point x f g ∷ asked) (then (point x f g)))
+      → (finite x ≡ true → (f g : Float) → finite f ≡ true → finite g ≡ true
+      → There (point x f g ∷ asked) (then' (point x f g)) → Here (point x f g ∷ asked) (then (point x f g)))
       → Here asked (trial s (keeping k) k x then)
   unfolding trial
   trial-arrives asked u x then then' room stands at go =
@@ -159,8 +164,8 @@ module _ (s : Setup) (fine : finite (s .level) ≡ true) (P : Last → List Poin
   U3-arrives : (m : ℕ) (asked : List Point) (came : Came) (then : Bracket → Search Report) (then' : Bracket → Alone)
       → length asked + m ≤ 3 + 3 * B → standing s w asked ≡ some came → had s w asked + m ≡ B
       → There asked (U3 s inl k m came then') → SoundCame L w asked came
-      → ((more : List Point) (v : Bracket) → length more ≤ length asked + m → At-bracket more v → There more (then' v) → Sound L w more v
-      → Here more (then v))
+      → ((more : List Point) (v : Bracket) → length more ≤ length asked + m → At-bracket more v → There more (then' v)
+      → Sound L w more v → Here more (then v))
       → Here asked (U3 s (keeping k) k m came then)
   unfolding U3 between
   U3-arrives zero asked (To v) then then' room stands left at (is-to i) go = go asked v (omega arith) stands at i
@@ -174,7 +179,8 @@ module _ (s : Setup) (fine : finite (s .level) ≡ true) (P : Last → List Poin
       let no-7 : Alone = end (inl (stepNotBetween (h .x) k' x)) in
       if-so (Here asked) (finite x)
       (λ fx. if-so (Here asked) (h .x <ᶠ x && x <ᶠ k')
-      (λ strictly. asking-arrives asked x (λ d. U3 s (keeping k) k m (narrowedOf L h k' d) then) on (omega arith) (inside here fx strictly)
+      (λ strictly. asking-arrives asked x (λ d. U3 s (keeping k) k m (narrowedOf L h k' d) then) on (omega arith)
+      (inside here fx strictly)
       (subst (λ (t : Bool). There asked (cond t (asking s inl k x on) no-7)) strictly
       (subst (λ (t : Bool). There asked (cond t (cond (h .x <ᶠ x && x <ᶠ k') (asking s inl k x on) no-7) no-5)) fx at))
       (λ f g ff fg at'.
@@ -182,7 +188,8 @@ module _ (s : Setup) (fine : finite (s .level) ≡ true) (P : Last → List Poin
       let lo = and-first (h .x <ᶠ x) (x <ᶠ k') strictly in
       let hi = and-second (h .x <ᶠ x) (x <ᶠ k') strictly in
       let more-had = one-more-had asked d stands in
-      U3-arrives m (d ∷ asked) (narrowedOf L h k' d) then then' (omega arith) (one-more-asked asked d stands) (omega arith) at'
+      U3-arrives m (d ∷ asked) (narrowedOf L h k' d) then then' (omega arith) (one-more-asked asked d stands)
+      (omega arith) at'
       (narrowed-sound L w asked h k' d i lo hi fx ff fg)
       (λ more v few stands' at'' i'. go more v (omega arith) stands' at'' i')))
       (λ e. ended (words.not-between here fx e)))
@@ -192,34 +199,39 @@ module _ (s : Setup) (fine : finite (s .level) ≡ true) (P : Last → List Poin
   updating-arrives : (asked : List Point) (o : Option Came) (then : Bracket → Search Report) (then' : Bracket → Alone)
       → length asked + B ≤ 3 + 3 * B → standing s w asked ≡ o → had s w asked ≡ 0
       → There asked (updating s inl k o then') → SoundUpdate L w asked o
-      → ((more : List Point) (v : Bracket) → length more ≤ length asked + B → At-bracket more v → There more (then' v) → Sound L w more v
-      → Here more (then v))
+      → ((more : List Point) (v : Bracket) → length more ≤ length asked + B → At-bracket more v → There more (then' v)
+      → Sound L w more v → Here more (then v))
       → Here asked (updating s (keeping k) k o then)
   unfolding updating
   updating-arrives asked (some came) then then' room stands none-had at (reaches i) go =
       U3-arrives B asked came then then' room stands (omega arith) at i go
 
-  update-arrives : (asked : List Point) (u : Bracket) (c : Point) (then : Bracket → Search Report) (then' : Bracket → Alone)
-      → length asked + suc B ≤ 3 + 3 * B → At-bracket asked u → Sound L w asked u → finite (c .x) ≡ true → finite (c .f) ≡ true → finite (c .g) ≡ true
-      → There (c ∷ asked) (update s inl k u c then')
-      → ((more : List Point) (v : Bracket) → length more ≤ length asked + suc B → At-bracket more v → There more (then' v) → Sound L w more v
-      → Here more (then v))
+  update-arrives : (asked : List Point) (u : Bracket) (c : Point) (then : Bracket → Search Report)
+      (then' : Bracket → Alone)
+      → length asked + suc B ≤ 3 + 3 * B → At-bracket asked u → Sound L w asked u → finite (c .x) ≡ true
+      → finite (c .f) ≡ true → finite (c .g) ≡ true → There (c ∷ asked) (update s inl k u c then')
+      → ((more : List Point) (v : Bracket) → length more ≤ length asked + suc B → At-bracket more v
+      → There more (then' v) → Sound L w more v → Here more (then v))
       → Here (c ∷ asked) (update s (keeping k) k u c then)
   update-arrives asked u c then then' room stands m fx ff fg at go =
-      updating-arrives (c ∷ asked) (updateOf L u c) then then' (omega arith) (one-more-asked asked c stands) (one-more-had asked c stands) at
+      updating-arrives (c ∷ asked) (updateOf L u c) then then' (omega arith) (one-more-asked asked c stands)
+      (one-more-had asked c stands) at
       (updated-sound L w asked u c m fine fx ff fg)
       (λ more v few stands' at' m'. go more v (omega arith) stands' at' m')
 
   -- a further trial, if there is one, and its update of u
-  further-arrives : (asked : List Point) (e : Further) (u : Bracket) (then : Bracket → Search Report) (then' : Bracket → Alone)
-      → length asked + suc B ≤ 3 + 3 * B → At-bracket asked u → There asked (further s inl k e u then') → Sound L w asked u
-      → ((more : List Point) (v : Bracket) → length more ≤ length asked + suc B → At-bracket more v → There more (then' v) → Sound L w more v
-      → Here more (then v))
+  further-arrives : (asked : List Point) (e : Further) (u : Bracket) (then : Bracket → Search Report)
+      (then' : Bracket → Alone)
+      → length asked + suc B ≤ 3 + 3 * B → At-bracket asked u → There asked (further s inl k e u then')
+      → Sound L w asked u
+      → ((more : List Point) (v : Bracket) → length more ≤ length asked + suc B → At-bracket more v
+      → There more (then' v) → Sound L w more v → Here more (then v))
       → Here asked (further s (keeping k) k e u then)
   unfolding further
   further-arrives asked Nothing u then then' room stands at m go = go asked u (omega arith) stands at m
   further-arrives asked (At x) u then then' room stands at m go =
-      trial-arrives asked u x (λ c. update s (keeping k) k u c then) (λ c. update s inl k u c then') (omega arith) stands at (λ fx f g ff fg at'.
+      trial-arrives asked u x (λ c. update s (keeping k) k u c then) (λ c. update s inl k u c then') (omega arith)
+      stands at (λ fx f g ff fg at'.
       update-arrives asked u (point x f g) then then' room stands m fx ff fg at' go)
 
   nothing-asked : At-bracket [] w
@@ -227,22 +239,25 @@ module _ (s : Setup) (fine : finite (s .level) ≡ true) (P : Last → List Poin
   nothing-asked = refl
 
   pub iteration-arrives : (then : Bracket → Search Report)
-      → ((more : List Point) (v : Bracket) → length more ≤ 3 + 3 * B → There more (end (inr v)) → Sound L w more v → Here more (then v))
-      → Here [] (iteration s (keeping k) k w then)
+      → ((more : List Point) (v : Bracket) → length more ≤ 3 + 3 * B → There more (end (inr v)) → Sound L w more v
+      → Here more (then v)) → Here [] (iteration s (keeping k) k w then)
   unfolding iteration afterS1 afterS4
   iteration-arrives then go =
       let L2' : Bracket → Alone = λ v. further s inl k (L2 (s .options .params .gamma) w v) v (λ z. end (inr z)) in
       let S4' : Point → Bracket → Alone = λ c u. further s inl k (S4 w (c .x) u) u L2' in
-      trial-arrives [] w (secantOf (w .a) (w .b)) _ (λ c. update s inl k w c (S4' c)) (omega arith) nothing-asked not-yet (λ fx f g ff fg at.
+      trial-arrives [] w (secantOf (w .a) (w .b)) _ (λ c. update s inl k w c (S4' c)) (omega arith) nothing-asked
+      not-yet (λ fx f g ff fg at.
       let c = point (secantOf (w .a) (w .b)) f g in
       update-arrives [] w c _ (S4' c) (omega arith) nothing-asked (sound-self L w) fx ff fg at
       (λ h1 u l1 st1 at1 m1. further-arrives h1 (S4 w (c .x) u) u _ L2' (omega arith) st1 at1 m1
-      (λ h2 v l2 st2 at2 m2. further-arrives h2 (L2 (s .options .params .gamma) w v) v then (λ z. end (inr z)) (omega arith) st2 at2 m2
+      (λ h2 v l2 st2 at2 m2. further-arrives h2 (L2 (s .options .params .gamma) w v) v then (λ z. end (inr z))
+      (omega arith) st2 at2 m2
       (λ h3 z l3 st3 at3 m3. go h3 z (omega arith) at3 m3))))
 
 -- ---- the iterations: what each one that is finished leaves
 module _ (s : Setup) where
-  decided-reports : (k : Report) (x : Float) (go : Search Report) (j : Judged) → reported go ≡ k → reported (decided k x go j) ≡ k
+  decided-reports : (k : Report) (x : Float) (go : Search Report) (j : Judged) → reported go ≡ k
+      → reported (decided k x go j) ≡ k
   unfolding decided reported
   decided-reports k x go (Holds v) e = refl
   decided-reports k x go Fails e = e
@@ -253,9 +268,11 @@ module _ (s : Setup) where
 
   pub rounds-report : (n : ℕ) (w : Bracket) (c : Point) (i : ℕ) → reported (rounds s n w c i) ≡ reportOf s w c i
   unfolding rounds verdict iteration
-  rounds-report zero w c i = decided-reports (reportOf s w c i) _ _ (judgedOf s (bestOf (w .a) (w .b) c)) (unfold reported in refl)
+  rounds-report zero w c i =
+      decided-reports (reportOf s w c i) _ _ (judgedOf s (bestOf (w .a) (w .b) c)) (unfold reported in refl)
   rounds-report (suc n) w c i =
-      decided-reports (reportOf s w c i) _ _ (judgedOf s (bestOf (w .a) (w .b) c)) (trial-reports (reportOf s w c i) (secantOf (w .a) (w .b)) _)
+      decided-reports (reportOf s w c i) _ _ (judgedOf s (bestOf (w .a) (w .b) c))
+      (trial-reports (reportOf s w c i) (secantOf (w .a) (w .b)) _)
 
   -- where n iterations may still be begun
   abbrev pub Onward : ℕ → Report → List Point → Search Report → Type 0
@@ -267,13 +284,16 @@ module _ (s : Setup) where
   decided-arrives n p go (Holds v) e next = ended (words.verdict e)
   decided-arrives n p go Fails e next = next refl
 
-  best-finite : (a b c : Point) → pointFinite a ≡ true → pointFinite b ≡ true → pointFinite c ≡ true → pointFinite (bestOf a b c) ≡ true
+  best-finite : (a b c : Point) → pointFinite a ≡ true → pointFinite b ≡ true → pointFinite c ≡ true
+      → pointFinite (bestOf a b c) ≡ true
   unfolding bestOver
   best-finite a b c fa fb fc =
       let Q : Point → Type 0 = λ p. pointFinite p ≡ true in
-      if-so Q (lowest c a b) (λ e. fc) (λ e. if-so Q (lowest b a c) (λ e. fb) (λ e. if-so Q (lowest a b c) (λ e. fa) (λ e. fa)))
+      if-so Q (lowest c a b) (λ e. fc)
+      (λ e. if-so Q (lowest b a c) (λ e. fb) (λ e. if-so Q (lowest a b c) (λ e. fa) (λ e. fa)))
 
-  pub report-fine : (w : Bracket) (c : Point) (i : ℕ) → EndsFinite w → pointFinite c ≡ true → reportFinite (reportOf s w c i) ≡ true
+  pub report-fine : (w : Bracket) (c : Point) (i : ℕ) → EndsFinite w → pointFinite c ≡ true
+      → reportFinite (reportOf s w c i) ≡ true
   report-fine w c i fw fc =
       let best = best-finite (w .a) (w .b) c (fw .low) (fw .high) fc in
       rw (fw .low, fw .high) best
@@ -290,7 +310,10 @@ module _ (s : Setup) where
       iteration-arrives s fine (Steps s) n p _ (λ asked v few at m.
       let fv = m .numbers fw in
       finishes (rounds-report n v c (i + 1)) refl (report-fine v c (i + 1) fv fc)
-      (record { finished = record { whole = at; low-from = m .low-from; high-from = m .high-from; few = few }; sound = m })
+      (record {
+        finished = record { whole = at; low-from = m .low-from; high-from = m .high-from; few = few };
+        sound = m;
+      })
       (rounds-arrive fine n v c (i + 1) (omega arith) fv fc)))
 
 -- ---- the start: a, b and c are asked
@@ -303,15 +326,18 @@ module _ (s : Setup) (fine : finite (s .level) ≡ true) where
 
   -- a question of the start
   start-asks : (asked : List Point) (x : Float) (then : Point → Search Report) → length asked < 3 → finite x ≡ true
-      → ((f g : Float) → pointFinite (point x f g) ≡ true → Onward s (suc N) noneYet (point x f g ∷ asked) (then (point x f g)))
+      → ((f g : Float) → pointFinite (point x f g) ≡ true
+      → Onward s (suc N) noneYet (point x f g ∷ asked) (then (point x f g)))
       → Onward s (suc N) noneYet asked (asking s (keeping noneYet) noneYet x then)
   start-asks asked x then room fx go =
-      starts {then = λ f g. cond (answerFinite f g) (then (point x f g)) (over noneYet (refusal (answerNotFinite f g)))} room (omega arith) fx (λ f g u. rw u)
+      starts {then = λ f g. cond (answerFinite f g) (then (point x f g)) (over noneYet (refusal (answerNotFinite f g)))}
+      room (omega arith) fx (λ f g u. rw u)
       (λ f g. if-so (Onward s (suc N) noneYet (point x f g ∷ asked)) (answerFinite f g)
       (λ e. go f g (rw fx e))
       (λ e. ended (words.not-finite {d = point x f g} e)))
 
-  pub search-arrives : finite (q .min) ≡ true → finite (q .max) ≡ true → finite (q .start) ≡ true → Onward s (suc N) noneYet [] (search s)
+  pub search-arrives : finite (q .min) ≡ true → finite (q .max) ≡ true → finite (q .start) ≡ true
+      → Onward s (suc N) noneYet [] (search s)
   unfolding search askHigh askStart
   search-arrives f-min f-max f-start =
       start-asks [] (q .min) (askHigh s) (omega arith) f-min (λ f g fa.

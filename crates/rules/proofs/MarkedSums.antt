@@ -1,5 +1,6 @@
--- 01, "The twelve marked sums", about the rules of specs/Rules.antt and of the conditions, as one list under a single claim: `marked-sums`. Each stands as
--- 01 writes it, in a setup that 01 accepts (`setup-accepted`); what a sum does not fix, it is proved for. Assumes nothing.
+-- 01, "The twelve marked sums", about the rules of specs/Rules.antt and of the conditions, as one list under a single
+-- claim: `marked-sums`. Each stands as 01 writes it, in a setup that 01 accepts (`setup-accepted`); what a sum does not
+-- fix, it is proved for. Assumes nothing.
 use mathlib.Core.Path.{_≡_, refl}
 use mathlib.Core.Bool.{true}
 use mathlib.Core.Logic.{_⊎_, inl, inr}
@@ -43,7 +44,8 @@ use Rattle.rules.specs.Rules.{
   iteration,
 }
 
--- "epsilon = 0, L = 1, theta = 0.5, a = (0,1,-2), b = (4,9,6) unless said." The start has cost 1 and slope -2; B is the budget.
+-- "epsilon = 0, L = 1, theta = 0.5, a = (0,1,-2), b = (4,9,6) unless said." The start has cost 1 and slope -2; B is the
+-- budget.
 abbrev options : ℕ → Options
 options B = record {
   params = record {
@@ -125,14 +127,16 @@ iterated = iteration (setup 100) by-number tt at-minimum becomes
 
 -- 01 accepts the setup
 pub accepts : ℕ → Results.Result Setup
-accepts B = refuse (startRows (options B) (whole 1) (minus (whole 2))) else setupOf (options B) (whole 1) (minus (whole 2))
+accepts B =
+    refuse (startRows (options B) (whole 1) (minus (whole 2))) else setupOf (options B) (whole 1) (minus (whole 2))
 
 pub record MarkedSums : Type 0 where
   pub setup-accepted : (accepts 100 ≡ value (setup 100)) × (accepts 2 ≡ value (setup 2))
   -- "secant(a, b) = 1"
   pub M1 : secantOf a b ≡ whole 1
   -- "c.x = 4, and c.x = 0: unchanged"
-  pub M2 : (f g : Float) → (updated-with 100 (point (whole 4) f g) ≡ becomes ab) × (updated-with 100 (point (whole 0) f g) ≡ becomes ab)
+  pub M2 : (f g : Float)
+      → (updated-with 100 (point (whole 4) f g) ≡ becomes ab) × (updated-with 100 (point (whole 0) f g) ≡ becomes ab)
   -- "c = (1,0,-0.0): (a, c)"
   pub M3 : let c = point (whole 1) (whole 0) (minus (whole 0)) in updated-with 100 c ≡ becomes (bracket a c)
   -- "c = (2,1,-1), cost equal to L: (c, b)"
@@ -140,11 +144,13 @@ pub record MarkedSums : Type 0 where
   -- "c = (2,3,-1): d.x = 1; answer (2,1): (a, (1,2,1))"
   pub M5 :
       (steps (updated-with 100 steep) [] ≡ whole 1 ∷ [])
-      × (left (updated-with 100 steep) ((whole 2, whole 1) ∷ []) ≡ becomes (bracket a (point (whole 1) (whole 2) (whole 1))))
+      × (left (updated-with 100 steep) ((whole 2, whole 1) ∷ [])
+      ≡ becomes (bracket a (point (whole 1) (whole 2) (whole 1))))
   -- "same c, answers (0.5,-1), (1.5,-1), (0,0.5): asks 1, 1.5, 1.25; result ((1,0.5,-1), (1.25,0,0.5))"
   pub M6 :
       (steps (updated-with 100 steep) three ≡ whole 1 ∷ quarters 6 ∷ quarters 5 ∷ [])
-      × (left (updated-with 100 steep) three ≡ becomes (bracket (point (whole 1) ½ (minus (whole 1))) (point (quarters 5) (whole 0) ½)))
+      × (left (updated-with 100 steep) three
+      ≡ becomes (bracket (point (whole 1) ½ (minus (whole 1))) (point (quarters 5) (whole 0) ½)))
   -- "M6 with B = 2: refusal 6 after the second answer"
   pub M7 :
       (steps (updated-with 2 steep) three ≡ whole 1 ∷ quarters 6 ∷ [])
@@ -166,7 +172,8 @@ pub record MarkedSums : Type 0 where
   pub M12 : conditions.M12
 
 pub marked-sums : MarkedSums
-unfolding accepts updated-with left steps iterated iteration afterS1 afterS4 further trial between U3 updating updateOf narrowedOf S2 S3 L2 bestOver add sub mul div neg le lt eq ofBits ofInt
+unfolding accepts updated-with left steps iterated iteration afterS1 afterS4 further trial between U3 updating updateOf
+    narrowedOf S2 S3 L2 bestOver add sub mul div neg le lt eq ofBits ofInt
 marked-sums = record {
   setup-accepted = (refl, refl);
   M1 = refl;

@@ -1,5 +1,5 @@
--- What is known of a start that no row refuses: its numbers are finite, B and N are in their ranges, the bounds are in order, and L is finite; and so how
--- many answers a search can take at most. Assumes nothing.
+-- What is known of a start that no row refuses: its numbers are finite, B and N are in their ranges, the bounds are in
+-- order, and L is finite; and so how many answers a search can take at most. Assumes nothing.
 use mathlib.Core.Path.{_≡_}
 use mathlib.Core.Bool.{Bool, true, _&&_}
 use Prim.Native.Nat.{_+_, _*_, _≤_}
@@ -35,7 +35,8 @@ ranges : (o : Options) (f0 s0 : Float) → Passed (startRows o f0 s0) → inRang
 ranges o f0 s0 (and two (and three (and four all))) = not-false _ three
 
 level : (o : Options) (f0 s0 : Float) → Passed (startRows o f0 s0) → finite (levelOf o f0) ≡ true
-level o f0 s0 (and two (and three (and four all))) = and-second (finite (epsilonK o f0)) (finite (levelOf o f0)) (not-false _ four)
+level o f0 s0 (and two (and three (and four all))) =
+    and-second (finite (epsilonK o f0)) (finite (levelOf o f0)) (not-false _ four)
 
 -- ---- what they say
 module _ (o : Options) (f0 s0 : Float) (ok : Passed (startRows o f0 s0)) where
@@ -46,11 +47,15 @@ module _ (o : Options) (f0 s0 : Float) (ok : Passed (startRows o f0 s0)) where
   level-finite = level o f0 s0 ok
 
   params : paramsFinite p ≡ true
-  params = and-first (paramsFinite p) (finite f0) (and-first (paramsFinite p && finite f0) (finite s0) (supplied o f0 s0 ok))
+  params =
+      and-first (paramsFinite p) (finite f0)
+      (and-first (paramsFinite p && finite f0) (finite s0) (supplied o f0 s0 ok))
 
   -- those in front of the bounds and the start step
   abbrev six : Bool
-  six = finite (p .delta) && finite (p .sigma) && finite (p .epsilon) && finite (p .theta) && finite (p .gamma) && finite (p .eta)
+  six =
+      finite (p .delta) && finite (p .sigma) && finite (p .epsilon) && finite (p .theta) && finite (p .gamma)
+      && finite (p .eta)
 
   abbrev eight : Bool
   eight = six && finite (p .min) && finite (p .max)
@@ -63,7 +68,8 @@ module _ (o : Options) (f0 s0 : Float) (ok : Passed (startRows o f0 s0)) where
 
   pub min-finite : finite (p .min) ≡ true
   min-finite =
-      and-second six (finite (p .min)) (and-first (six && finite (p .min)) (finite (p .max)) (and-first eight (finite (p .start)) params))
+      and-second six (finite (p .min))
+      (and-first (six && finite (p .min)) (finite (p .max)) (and-first eight (finite (p .start)) params))
 
   counts : countsInRange o ≡ true
   counts = and-second (deltaSigmaInRange p && factorsInRange p && boundsInRange p) (countsInRange o) (ranges o f0 s0 ok)
@@ -72,13 +78,15 @@ module _ (o : Options) (f0 s0 : Float) (ok : Passed (startRows o f0 s0)) where
   budget-fits =
       let m = o .budget in
       let n = o .limit in
-      leb-true m 1000 (and-second (leb 1 m) (leb m 1000) (and-first (leb 1 m && leb m 1000) (leb 1 n && leb n 10000) counts))
+      leb-true m 1000
+      (and-second (leb 1 m) (leb m 1000) (and-first (leb 1 m && leb m 1000) (leb 1 n && leb n 10000) counts))
 
   pub limit-fits : o .limit ≤ 10000
   limit-fits =
       let m = o .budget in
       let n = o .limit in
-      leb-true n 10000 (and-second (leb 1 n) (leb n 10000) (and-second (leb 1 m && leb m 1000) (leb 1 n && leb n 10000) counts))
+      leb-true n 10000
+      (and-second (leb 1 n) (leb n 10000) (and-second (leb 1 m && leb m 1000) (leb 1 n && leb n 10000) counts))
 
   pub low-below-high : (p .min <ᶠ p .max) ≡ true
   low-below-high =
@@ -89,5 +97,6 @@ module _ (o : Options) (f0 s0 : Float) (ok : Passed (startRows o f0 s0)) where
   pub most-answers : 3 + o .limit * (3 + 3 * o .budget) ≤ 30030003
   most-answers =
       let b = budget-fits in
-      let one : o .limit * (3 + 3 * o .budget) ≤ 10000 * (3 + 3 * o .budget) = mul-le-mul-right (3 + 3 * o .budget) limit-fits in
+      let one : o .limit * (3 + 3 * o .budget) ≤ 10000 * (3 + 3 * o .budget) =
+      mul-le-mul-right (3 + 3 * o .budget) limit-fits in
       omega arith

@@ -1,8 +1,8 @@
--- Demand 3, for one update of the rules: each end of the bracket that it comes to is an end of the bracket w that the iteration began with, or a
--- point that the iteration asked, with its answer; where w has demand 3's three facts and its ends in order, so has the new one, within w; and
--- where w's numbers are finite, so are the new one's. Proved once for U0 to U2 (`updated-sound`) and once for U3 by its answer
--- (`narrowed-sound`). The Rust's "unreachable point" has no case here: at finite numbers one of the guards holds. From the order of finite floats.
--- Assumes nothing.
+-- Demand 3, for one update of the rules: each end of the bracket that it comes to is an end of the bracket w that the
+-- iteration began with, or a point that the iteration asked, with its answer; where w has demand 3's three facts and
+-- its ends in order, so has the new one, within w; and where w's numbers are finite, so are the new one's. Proved once
+-- for U0 to U2 (`updated-sound`) and once for U3 by its answer (`narrowed-sound`). The Rust's "unreachable point" has
+-- no case here: at finite numbers one of the guards holds. From the order of finite floats. Assumes nothing.
 use mathlib.Core.Path.{_≡_, refl, sym, _∙_}
 use mathlib.Core.Bool.{Bool, true, false, cond, _&&_, _||_, false≢true}
 use mathlib.Core.List.{List, [], _∷_}
@@ -69,7 +69,8 @@ from-more q (former-low e) = former-low e
 from-more q (former-high e) = former-high e
 from-more q (asked-now o) = asked-now (there o)
 
-pub sound-more : {L : Float} {w : Bracket} {asked : List Point} {u : Bracket} (q : Point) → Sound L w asked u → Sound L w (q ∷ asked) u
+pub sound-more : {L : Float} {w : Bracket} {asked : List Point} {u : Bracket} (q : Point) → Sound L w asked u
+    → Sound L w (q ∷ asked) u
 sound-more q m = record {
   low-from = from-more q (m .low-from);
   high-from = from-more q (m .high-from);
@@ -116,7 +117,8 @@ both-finite x f g ex ef eg = rw (ex, ef, eg)
 -- ---- U0 to U3: u is reached on w, and c was asked just now
 module _ (L : Float) (w : Bracket) (asked : List Point) (u : Bracket) (c : Point) (m : Sound L w asked u)
     (fL : finite L ≡ true) (fx : finite (c .x) ≡ true) (ff : finite (c .f) ≡ true) (fg : finite (c .g) ≡ true) where
-  in-u : (c .x ≤ᶠ u .a .x || c .x ≥ᶠ u .b .x) ≡ false → Bracketed L u → (u .a .x <ᶠ c .x ≡ true) × (c .x <ᶠ u .b .x ≡ true)
+  in-u : (c .x ≤ᶠ u .a .x || c .x ≥ᶠ u .b .x) ≡ false → Bracketed L u
+      → (u .a .x <ᶠ c .x ≡ true) × (c .x <ᶠ u .b .x ≡ true)
   in-u e b =
       let o = lt→le (u .a .x) (u .b .x) (b .in-order) in
       let out-low = or-no-1 (c .x ≤ᶠ u .a .x) (c .x ≥ᶠ u .b .x) e in
@@ -128,7 +130,8 @@ module _ (L : Float) (w : Bracket) (asked : List Point) (u : Bracket) (c : Point
   c-finite : pointFinite c ≡ true
   c-finite = both-finite (finite (c .x)) (finite (c .f)) (finite (c .g)) fx ff fg
 
-  rises-to : (c .x ≤ᶠ u .a .x || c .x ≥ᶠ u .b .x) ≡ false → c .g ≥ᶠ 0ᶠ ≡ true → Sound L w (c ∷ asked) (record { a = u .a; b = c })
+  rises-to : (c .x ≤ᶠ u .a .x || c .x ≥ᶠ u .b .x) ≡ false → c .g ≥ᶠ 0ᶠ ≡ true
+      → Sound L w (c ∷ asked) (record { a = u .a; b = c })
   rises-to out rises = record {
     low-from = from-more c (m .low-from);
     high-from = asked-now here;
@@ -199,7 +202,8 @@ module _ (L : Float) (w : Bracket) (asked : List Point) (u : Bracket) (c : Point
       absurd (false≢true (sym (and-no-2 (c .g <ᶠ 0ᶠ) (c .f >ᶠ L) none-holds falls) ∙ above))))))
 
 -- ---- U3 by its answer d, asked between h and k
-module _ (L : Float) (w : Bracket) (asked : List Point) (h : Point) (k : Float) (d : Point) (m : Narrowing L w asked h k)
+module _ (L : Float) (w : Bracket) (asked : List Point) (h : Point) (k : Float) (d : Point)
+    (m : Narrowing L w asked h k)
     (lo : h .x <ᶠ d .x ≡ true) (hi : d .x <ᶠ k ≡ true)
     (fx : finite (d .x) ≡ true) (ff : finite (d .f) ≡ true) (fg : finite (d .g) ≡ true) where
   d-finite : pointFinite d ≡ true

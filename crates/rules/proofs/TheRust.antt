@@ -1,6 +1,7 @@
--- The Rust's U3 is a loop with two separate ifs, and 01's a chain of else: for a finite L and an answer with finite cost and slope the body of the
--- loop is 01's (`loop-is-U3`). (The Rust's update is 01's guard for guard, its error among them: `updateOf`. That a search never comes to
--- that error is `never-unreachable`, proofs/Demand3.antt.) From the order of finite floats. Assumes nothing.
+-- The Rust's U3 is a loop with two separate ifs, and 01's a chain of else: for a finite L and an answer with finite
+-- cost and slope the body of the loop is 01's (`loop-is-U3`). (The Rust's update is 01's guard for guard, its error
+-- among them: `updateOf`. That a search never comes to that error is `never-unreachable`, proofs/Demand3.antt.) From
+-- the order of finite floats. Assumes nothing.
 use mathlib.Core.Path.{_≡_, refl}
 use mathlib.Core.Bool.{Bool, true, false, cond, _&&_, true≢false, false≢true}
 use lib.Ieee.{Float}
@@ -29,9 +30,10 @@ by-loop false true false true h d k p q r = refl
 by-loop false true false false h d k p q r = absurd (false≢true (q refl))
 by-loop false false under over h d k p q r = absurd (false≢true (p refl))
 
-pub loop-is-U3 : (L : Float) (h : Point) (k : Float) (d : Point) → finite L ≡ true → finite (d .f) ≡ true → finite (d .g) ≡ true
-    → rust-loop L h k d ≡ narrowedOf L h k d
+pub loop-is-U3 : (L : Float) (h : Point) (k : Float) (d : Point) → finite L ≡ true → finite (d .f) ≡ true
+    → finite (d .g) ≡ true → rust-loop L h k d ≡ narrowedOf L h k d
 unfolding rust-loop narrowedOf
 loop-is-U3 L h k d l p q =
     by-loop (d .g ≥ᶠ 0ᶠ) (d .g <ᶠ 0ᶠ) (d .f ≤ᶠ L) (d .f >ᶠ L) h d k
-    (nle→lt 0ᶠ (d .g) zero-real (finite→real (d .g) q)) (nle→lt (d .f) L (finite→real (d .f) p) (finite→real L l)) (le→nlt (d .f) L)
+    (nle→lt 0ᶠ (d .g) zero-real (finite→real (d .g) q)) (nle→lt (d .f) L (finite→real (d .f) p) (finite→real L l))
+    (le→nlt (d .f) L)

@@ -1,5 +1,5 @@
--- Demand 3's words, over the rules of specs/Rules.antt: what was asked in an iteration, when it is finished and what it leaves; where U3 stands;
--- and why a step is asked, or a search is over.
+-- Demand 3's words, over the rules of specs/Rules.antt: what was asked in an iteration, when it is finished and what it
+-- leaves; where U3 stands; and why a step is asked, or a search is over.
 use Prim.Native.Nat.{ℕ, suc, _+_, _*_, _≤_, _<_}
 use mathlib.Core.Path.{_≡_}
 use mathlib.Core.Bool.{Bool, true, false, cond, _&&_}
@@ -77,7 +77,8 @@ abbrev pub noted : Search Report → Reply → List Point → List Point
 noted (ask k x then) y asked = point x (y .0) (y .1) ∷ asked
 noted (end o) y asked = asked
 
--- an answer that brings the search further finishes what was under way, and the next iteration begins with nothing asked
+-- an answer that brings the search further finishes what was under way, and the next iteration begins with
+-- nothing asked
 abbrev pub kept : Search Report → Reply → List Point → List Point
 kept r y asked = cond (ltb (progress (reported r)) (progress (reported (respond r (y .0) (y .1))))) [] (noted r y asked)
 
@@ -164,21 +165,25 @@ pub record InU3 (s : Setup) (w : Bracket) (asked : List Point) (h : Point) (k d 
 
 pub data Asks (s : Setup) (w : Bracket) (asked : List Point) (x : Float) : Type 0 where
   trial : {u : Bracket} → standing s w asked ≡ some (To u) → finite x ≡ true → Asks s w asked x
-  inside : {h : Point} {k : Float} → InU3 s w asked h k x → finite x ≡ true → (h .x <ᶠ x && x <ᶠ k) ≡ true → Asks s w asked x
+  inside : {h : Point} {k : Float} → InU3 s w asked h k x → finite x ≡ true → (h .x <ᶠ x && x <ᶠ k) ≡ true
+      → Asks s w asked x
 
 -- ---- every ending is true of the report that it keeps, and of what was asked since
 
 pub data Ends (s : Setup) : Report → List Point → Ending Why → Type 0 where
   -- "a stop with its verdict and step": of the best
-  verdict : {p : Last} {v : Verdict} → judgedOf s (p .best) ≡ Holds v → Ends s (last p) [] (stop (verdictWord v) (p .best .x))
+  verdict : {p : Last} {v : Verdict} → judgedOf s (p .best) ≡ Holds v
+      → Ends s (last p) [] (stop (verdictWord v) (p .best .x))
   -- ""limit", with bracket and best of the N-th iteration"
-  at-limit : {p : Last} → judgedOf s (p .best) ≡ Fails → p .iterations ≡ s .options .limit → Ends s (last p) [] (limit (p .best .x))
+  at-limit : {p : Last} → judgedOf s (p .best) ≡ Fails → p .iterations ≡ s .options .limit
+      → Ends s (last p) [] (limit (p .best .x))
   -- 2: the last answer
   not-finite : {k : Report} {d : Point} {asked : List Point}
       → answerFinite (d .f) (d .g) ≡ false → Ends s k (d ∷ asked) (refusal (answerNotFinite (d .f) (d .g)))
   -- 5: of a trial, and in U3
   trial-not-finite : {p : Last} {asked : List Point} {u : Bracket} {x : Float}
-      → standing s (p .bracket) asked ≡ some (To u) → finite x ≡ false → Ends s (last p) asked (refusal (stepNotFinite x))
+      → standing s (p .bracket) asked ≡ some (To u) → finite x ≡ false
+      → Ends s (last p) asked (refusal (stepNotFinite x))
   U3-not-finite : {p : Last} {asked : List Point} {h : Point} {k x : Float}
       → InU3 s (p .bracket) asked h k x → finite x ≡ false → Ends s (last p) asked (refusal (stepNotFinite x))
   -- 6: "one U3 run has had B answers and the last did not end it"

@@ -1,4 +1,5 @@
--- 01, "Parameters", and of "Numbers in, numbers refused" B and N; epsilon_k and L; and the refusals of a start, in 01's order.
+-- 01, "Parameters", and of "Numbers in, numbers refused" B and N; epsilon_k and L; and the refusals of a start, in
+-- 01's order.
 use mathlib.Core.Bool.{Bool, not, _&&_}
 use mathlib.Core.List.{List, [], _∷_}
 use lib.Dec.{leb}
@@ -11,7 +12,8 @@ use Rattle.rules.specs.declared.Params.{Params}
 use Rattle.rules.specs.declared.Options.{Options}
 use Rattle.rules.specs.declared.Setup.{Setup}
 
--- "delta 0.1, sigma 0.9 .. epsilon 1e-6 .. theta 0.5, gamma 0.66 .. eta 0.01 .. Bounds 2^-52 and 1e5 .. Start step c: 1"; the budget B and the limit N are 100
+-- "delta 0.1, sigma 0.9 .. epsilon 1e-6 .. theta 0.5, gamma 0.66 .. eta 0.01 .. Bounds 2^-52 and 1e5 ..
+-- Start step c: 1"; the budget B and the limit N are 100
 abbrev pub defaultOptions : Options
 defaultOptions = record {
   params = record {
