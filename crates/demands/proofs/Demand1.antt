@@ -1,5 +1,5 @@
--- Demand 1: every function that can refuse does so by its table, and leaves what 01 says (`demand1`). A result is defined as the
--- first row that holds, so the tables are read off the definitions. Assumes nothing.
+-- Demand 1: every function that can refuse does so by its table, and leaves what 01 says (`demand1`). A result is
+-- defined as the first row that holds, so the tables are read off the definitions. Assumes nothing.
 use mathlib.Core.Path.{_≡_, refl, sym, ap, _∙_}
 use mathlib.Core.List.{List}
 use mathlib.Core.Option.{Option, some}
@@ -22,7 +22,8 @@ use Rattle.demands.proofs.Refused.{refused-rightly}
 
 job-table : (bytes : List ℕ) (j : Job) → jobOf bytes ≡ value j → Table (refusedBy (beginOf bytes)) (jobRows j)
 unfolding inOrder
-job-table bytes j e = record { exactly = ap (λ (r : Result Job). refusedBy (beginsBy r)) e ∙ by-rows (jobRows j) _; ordered = refl }
+job-table bytes j e =
+    record { exactly = ap (λ (r : Result Job). refusedBy (beginsBy r)) e ∙ by-rows (jobRows j) _; ordered = refl }
 
 pub demand1 : Demand1
 unfolding given inOrder

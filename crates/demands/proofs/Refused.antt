@@ -1,5 +1,6 @@
--- Every Hager-Zhang search that `start` gave is refused for a reason that is true of its numbers, and every step that it asks is
--- finite, in U3 strictly between its ends (`refused-rightly`). From the rules (rules/proofs/Demand3.antt). Assumes nothing.
+-- Every Hager-Zhang search that `start` gave is refused for a reason that is true of its numbers, and every step that
+-- it asks is finite, in U3 strictly between its ends (`refused-rightly`). From the rules (rules/proofs/Demand3.antt).
+-- Assumes nothing.
 use mathlib.Core.Path.{_≡_, refl, sym, ap, _∙_, subst}
 use mathlib.Core.Bool.{Bool, true, false, false≢true}
 use Prim.Native.Nat.{ℕ}
@@ -32,7 +33,8 @@ is-refusal (refusal n) = true
 same-number : (m n : ℕ) → refusal m ≡ refusal n → m ≡ n
 same-number m n e = cc
 
-reason : (s : Setup) (k : Report) (asked : List Point) (e : Ending Why) (n : ℕ) → Ends s k asked e → numbered e ≡ refusal n → Reason s k asked n
+reason : (s : Setup) (k : Report) (asked : List Point) (e : Ending Why) (n : ℕ) → Ends s k asked e
+    → numbered e ≡ refusal n → Reason s k asked n
 unfolding is-refusal
 reason s k asked (stop w x) n because is = absurd (false≢true (ap is-refusal is))
 reason s k asked (limit x) n because is = absurd (false≢true (ap is-refusal is))
@@ -52,7 +54,8 @@ module _ (o : Options) (f0 s0 : Float) (ok : Passed (startRows o f0 s0)) where
       (rules.ends o f0 s0 ok (one-more ys y) (e .keeps) (e .by) (after-one-more (search s) ys y ∙ is))
       (same-end (numbered (e .by)) (refusal n) shows)
 
-  shown-next : (ys : List Reply) (y : Reply) → shown (after (search s) (one-more ys y)) ≡ shown (respond (after (search s) ys) (y .0) (y .1))
+  shown-next : (ys : List Reply) (y : Reply)
+      → shown (after (search s) (one-more ys y)) ≡ shown (respond (after (search s) ys) (y .0) (y .1))
   shown-next ys y = ap shown (after-one-more (search s) ys y)
 
   of-fresh : Refused o f0 s0 (fresh s)
@@ -62,8 +65,11 @@ module _ (o : Options) (f0 s0 : Float) (ok : Passed (startRows o f0 s0)) where
         (ended ys y n (respond (after (search s) ys) (y .0) (y .1)) refl (sym (told-at o f0 s0 ok ys y) ∙ e));
     spent = λ ys p h k e stands all.
         over-at o f0 s0 ok ys
-        ∙ rules.spent-over o f0 s0 ok ys p h k (sym (report-at o f0 s0 ok ys) ∙ e) (rw (asked-by o f0 s0 ok ys) at stands) (rw (asked-by o f0 s0 ok ys) at all);
-    asks-finite = λ ys y x e. rules.asks-finite o f0 s0 ok (one-more ys y) x (shown-next ys y ∙ sym (told-at o f0 s0 ok ys y) ∙ e);
+        ∙ rules.spent-over o f0 s0 ok ys p h k (sym (report-at o f0 s0 ok ys) ∙ e)
+        (rw (asked-by o f0 s0 ok ys) at stands) (rw (asked-by o f0 s0 ok ys) at all);
+    asks-finite =
+        λ ys y x e. rules.asks-finite o f0 s0 ok (one-more ys y) x
+        (shown-next ys y ∙ sym (told-at o f0 s0 ok ys y) ∙ e);
     asks-rightly = λ ys y x e p h.
         rw (asked-by o f0 s0 ok (one-more ys y))
         (rules.asks o f0 s0 ok (one-more ys y) p x (sym (report-at o f0 s0 ok (one-more ys y)) ∙ h)

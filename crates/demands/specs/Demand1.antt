@@ -1,6 +1,6 @@
--- Demand 1: "Any input gets an answer. Non-finite numbers, bad parameters, a spent U3 budget, a stalled U3 and calls after the
--- end are refused by number. Document 01 fixes each refusal, the state after it and any lent buffer." Every public function
--- is total by its contract; here is what each refuses, and what a refusal leaves.
+-- Demand 1: "Any input gets an answer. Non-finite numbers, bad parameters, a spent U3 budget, a stalled U3 and calls
+-- after the end are refused by number. Document 01 fixes each refusal, the state after it and any lent buffer." Every
+-- public function is total by its contract; here is what each refuses, and what a refusal leaves.
 use Prim.Native.Nat.{ℕ}
 use mathlib.Core.Path.{_≡_}
 use mathlib.Core.Bool.{Bool, true, false, cond, not}
@@ -56,12 +56,13 @@ pub record Answered (s : Search) (f g : Float) (r : Step) : Type 0 where
   pub keeps : isOver (s .stage) ≡ false → answerFinite f g ≡ false → report (r .search) ≡ report s
   -- "Evaluations count every finite answer accepted, those of a refused iteration too."
   pub counts : r .search .evaluations .0
-      ≡ cond (isOver (s .stage)) (s .evaluations .0) (cond (answerFinite f g) (counted (s .evaluations .0)) (s .evaluations .0))
+      ≡ cond (isOver (s .stage)) (s .evaluations .0)
+      (cond (answerFinite f g) (counted (s .evaluations .0)) (s .evaluations .0))
 
 -- ---- an answer to a search that `start` gave: why it is refused, and what is asked
 
--- a number comes for a reason that is true: of what is held, which is from before that iteration, and of the points that
--- the iteration asked
+-- a number comes for a reason that is true: of what is held, which is from before that iteration, and of the points
+-- that the iteration asked
 pub record Reason (s : Setup) (held : Report) (asked : List Point) (n : ℕ) : Type 0 where
   pub why : Why
   pub number : numberFor why ≡ n
@@ -112,6 +113,7 @@ pub record Demand1 : Type 0 where
   -- 8 and 2, of any state; "If an answer from the curve is not finite, refusal 2 applies."
   pub answer : (s : Search) (f g : Float) (r : Step) → AnswerSaid s f g r → Answered s f g r
   pub curve-answer : (s : Search) (c : Curve) (x : Float) (r : Step) → AnswerSaid s (valueOf c x) (slopeOf c x) r
-      → isOver (s .stage) ≡ false → answerFinite (valueOf c x) (slopeOf c x) ≡ false → refusalIn (told (r .outcome)) ≡ some 2
+      → isOver (s .stage) ≡ false → answerFinite (valueOf c x) (slopeOf c x) ≡ false
+      → refusalIn (told (r .outcome)) ≡ some 2
   -- 2, 5, 6, 7, of any search that `start` gave
   pub search : (o : Options) (f0 s0 : Float) (t : Step) → startOf o f0 s0 ≡ value t → Refused o f0 s0 t

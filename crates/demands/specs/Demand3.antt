@@ -1,5 +1,5 @@
--- Demand 3: the bracket, the bounds and the counts, of a Hager-Zhang search that `start` gave, t, for every list of answers.
--- Its words stand in rules/specs/Iterations.antt. (Backtracking: specs/Backtracking.antt.)
+-- Demand 3: the bracket, the bounds and the counts, of a Hager-Zhang search that `start` gave, t, for every list of
+-- answers. Its words stand in rules/specs/Iterations.antt. (Backtracking: specs/Backtracking.antt.)
 use Prim.Native.Nat.{ℕ, _+_, _*_, _≤_}
 use mathlib.Core.Path.{_≡_}
 use mathlib.Core.Bool.{true}
@@ -50,8 +50,9 @@ module _ (o : Options) (f0 s0 : Float) (t : Step) where
   high-end y = point (o .params .max) (y .0) (y .1)
 
   pub record Demand3 : Type 0 where
-    -- "Let the answered starting ends have low slope < 0, low cost <= L .. and high slope >= 0. Then after each finished
-    -- iteration the bracket meets the same three, low step < high step": whatever bracket is held after any answers
+    -- "Let the answered starting ends have low slope < 0, low cost <= L .. and high slope >= 0. Then after each
+    -- finished iteration the bracket meets the same three, low step < high step": whatever bracket is held after any
+    -- answers
     pub bracket-stays : (ya yb yc : Reply) (ys : List Reply) → Premise (s .level) (low-end ya) (high-end yb)
         → (p : Last) → report (reachedBy b (ya ∷ yb ∷ yc ∷ ys)) ≡ last p → Bracketed (s .level) (p .bracket)
     -- "and it lies within the former bracket": where one more answer counts one more iteration
@@ -61,8 +62,8 @@ module _ (o : Options) (f0 s0 : Float) (t : Step) where
         → report (reachedBy b (one-more (ya ∷ yb ∷ yc ∷ ys) y)) ≡ last q
         → q .iterations ≡ p .iterations + 1
         → Within (p .bracket) (q .bracket)
-    -- "Each end is, bit for bit, a former end or a step asked in that iteration with its answer": whatever the slopes are;
-    -- and its answers are those of a whole iteration
+    -- "Each end is, bit for bit, a former end or a step asked in that iteration with its answer": whatever the slopes
+    -- are; and its answers are those of a whole iteration
     pub each-iteration : (ys : List Reply) (y : Reply) (p q : Last)
         → report (reachedBy b ys) ≡ last p
         → report (reachedBy b (one-more ys y)) ≡ last q
