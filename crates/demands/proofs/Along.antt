@@ -1,6 +1,6 @@
--- The machine along any answers is the rules' search, for a start that no row refuses: what it tells, holds and awaits, what
--- was asked in the iteration under way, and what is counted. From one answer (hagerzhang/proofs/Bridge.antt) to any list
--- (outcomes/proofs/Machines.antt). Assumes nothing.
+-- The machine along any answers is the rules' search, for a start that no row refuses: what it tells, holds and awaits,
+-- what was asked in the iteration under way, and what is counted. From one answer (hagerzhang/proofs/Bridge.antt) to
+-- any list (outcomes/proofs/Machines.antt). Assumes nothing.
 use mathlib.Core.Path.{_≡_, refl, sym, ap, ap₂, _∙_, subst}
 use mathlib.Core.Bool.{Bool, true, false, cond, not}
 use mathlib.Core.List.{List, [], _∷_, _++_}
@@ -62,12 +62,14 @@ use Rattle.demands.specs.Runs.{
 }
 
 -- ---- lists
-pub after-one-more : (r : Rest Report) (ys : List Reply) (y : Reply) → after r (one-more ys y) ≡ respond (after r ys) (y .0) (y .1)
+pub after-one-more : (r : Rest Report) (ys : List Reply) (y : Reply)
+    → after r (one-more ys y) ≡ respond (after r ys) (y .0) (y .1)
 unfolding after
 after-one-more r [] y = refl
 after-one-more r (z ∷ ys) y = after-one-more (respond r (z .0) (z .1)) ys y
 
-pub reached-one-more : (s : Search) (ys : List Reply) (y : Reply) → reachedBy s (one-more ys y) ≡ next (reachedBy s ys) (y .0) (y .1)
+pub reached-one-more : (s : Search) (ys : List Reply) (y : Reply)
+    → reachedBy s (one-more ys y) ≡ next (reachedBy s ys) (y .0) (y .1)
 unfolding reached
 reached-one-more s [] y = refl
 reached-one-more s (z ∷ ys) y = reached-one-more (next s (z .0) (z .1)) ys y
@@ -90,9 +92,16 @@ awaits-rests (end o) = refl
 
 kept-rests : (r : Rest Report) (y : Reply) (asked : List Point) → kept (onceTold r) y asked ≡ kept r y asked
 kept-rests r y asked =
-    rw (rests r (y .0) (y .1), machines.report-rests r, noted-awaits (onceTold r) y asked, noted-awaits r y asked, awaits-rests r)
+    rw (
+      rests r (y .0) (y .1),
+      machines.report-rests r,
+      noted-awaits (onceTold r) y asked,
+      noted-awaits r y asked,
+      awaits-rests r,
+    )
 
-under-way-rests : (asked : List Point) (r : Rest Report) (ys : List Reply) → under-way asked (onceTold r) ys ≡ under-way asked r ys
+under-way-rests : (asked : List Point) (r : Rest Report) (ys : List Reply)
+    → under-way asked (onceTold r) ys ≡ under-way asked r ys
 unfolding under-way
 under-way-rests asked r [] = refl
 under-way-rests asked r (y ∷ ys) = rw (kept-rests r y asked, rests r (y .0) (y .1))
@@ -159,13 +168,15 @@ module _ (o : Options) (f0 s0 : Float) (ok : Passed (startRows o f0 s0)) where
 
   -- what is told
   pub outcomes-are : (ys : List Reply) → toldBy b ys ≡ outcomes (search s) ys
-  outcomes-are ys = machines.plays meant next says Fit fit-next leaves tells b refl ys ∙ ap (λ (r : Rest Report). outcomes r ys) whole
+  outcomes-are ys =
+      machines.plays meant next says Fit fit-next leaves tells b refl ys ∙ ap (λ (r : Rest Report). outcomes r ys) whole
 
   -- what does not tell an ended search from one that has told so
   pub reaches : {A : Type 0} (h : Rest Report → A) → ((r : Rest Report) → h (onceTold r) ≡ h r) → (ys : List Reply)
       → h (meant (reachedBy b ys)) ≡ h (after (search s) ys)
   reaches h e ys =
-      machines.reaches meant next says Fit fit-next leaves tells h e b refl ys ∙ ap (λ (r : Rest Report). h (after r ys)) whole
+      machines.reaches meant next says Fit fit-next leaves tells h e b refl ys
+      ∙ ap (λ (r : Rest Report). h (after r ys)) whole
 
   pub report-at : (ys : List Reply) → report (reachedBy b ys) ≡ reported (after (search s) ys)
   report-at ys = report-is (reachedBy b ys) ∙ reaches reported machines.report-rests ys
@@ -193,7 +204,8 @@ module _ (o : Options) (f0 s0 : Float) (ok : Passed (startRows o f0 s0)) where
   report-next ys y = report-at (one-more ys y) ∙ ap reported (after-one-more (search s) ys y)
 
   -- what was asked in the iteration under way
-  asked-is : (asked : List Point) (c : Search) → Fit c → (ys : List Reply) → askedFrom asked c ys ≡ under-way asked (meant c) ys
+  asked-is : (asked : List Point) (c : Search) → Fit c → (ys : List Reply)
+      → askedFrom asked c ys ≡ under-way asked (meant c) ys
   unfolding askedFrom under-way
   asked-is asked c v [] = refl
   asked-is asked c v (y ∷ ys) =
@@ -208,12 +220,14 @@ module _ (o : Options) (f0 s0 : Float) (ok : Passed (startRows o f0 s0)) where
         ← noted-awaits (meant c) y asked,
       ) in
       asked-is more c' (fit-next c v (y .0) (y .1)) ys
-      ∙ rw (same, leaves c v (y .0) (y .1)) (under-way-rests (kept (meant c) y asked) (respond (meant c) (y .0) (y .1)) ys)
+      ∙ rw (same, leaves c v (y .0) (y .1))
+      (under-way-rests (kept (meant c) y asked) (respond (meant c) (y .0) (y .1)) ys)
 
   pub asked-by : (ys : List Reply) → askedBy b ys ≡ under-way [] (search s) ys
   asked-by ys = asked-is [] b refl ys ∙ ap (λ (r : Rest Report). under-way [] r ys) whole
 
-  pub asked-at : (ys : List Reply) (y : Reply) → askedAt b ys y ≡ noted (after (search s) ys) y (under-way [] (search s) ys)
+  pub asked-at : (ys : List Reply) (y : Reply)
+      → askedAt b ys y ≡ noted (after (search s) ys) y (under-way [] (search s) ys)
   asked-at ys y =
       ap₂ (λ (d : Option Float) (asked : List Point). note d y asked) (awaited-at ys) (asked-by ys)
       ∙ sym (noted-awaits (after (search s) ys) y (under-way [] (search s) ys))
@@ -225,7 +239,12 @@ module _ (o : Options) (f0 s0 : Float) (ok : Passed (startRows o f0 s0)) where
   finished-is c v (y ∷ ys) =
       let c' = next c (y .0) (y .1) in
       ap₂ (λ (k l : ℕ). k + l)
-      (rw (report-is c, report-is c', leaves c v (y .0) (y .1), machines.report-rests (respond (meant c) (y .0) (y .1))))
+      (rw (
+        report-is c,
+        report-is c',
+        leaves c v (y .0) (y .1),
+        machines.report-rests (respond (meant c) (y .0) (y .1)),
+      ))
       (finished-is c' (fit-next c v (y .0) (y .1)) ys
       ∙ rw (leaves c v (y .0) (y .1)) (finished-rests (respond (meant c) (y .0) (y .1)) ys))
 
@@ -248,5 +267,6 @@ module _ (o : Options) (f0 s0 : Float) (ok : Passed (startRows o f0 s0)) where
       let same : accepted answerFinite (meant b) ys ≡ accepted answerFinite (search s) ys =
       ap (λ (r : Rest Report). accepted answerFinite r ys) whole in
       let c =
-      machines.counts meant next says Fit fit-next leaves tells answerFinite (λ (c : Search). c .evaluations .0) adds b refl ys (omega arith) in
+      machines.counts meant next says Fit fit-next leaves tells answerFinite (λ (c : Search). c .evaluations .0) adds b
+      refl ys (omega arith) in
       omega arith

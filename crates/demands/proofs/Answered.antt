@@ -1,5 +1,5 @@
--- 01's table of refusals for Hager-Zhang, of any state: an answer is refused by 8 and by 2 exactly when their rows say so, and
--- else by 6, 5 or 7 at most; and what that leaves (`answered`). Assumes nothing.
+-- 01's table of refusals for Hager-Zhang, of any state: an answer is refused by 8 and by 2 exactly when their rows say
+-- so, and else by 6, 5 or 7 at most; and what that leaves (`answered`). Assumes nothing.
 use mathlib.Core.Path.{_≡_, refl, sym, ap, _∙_}
 use mathlib.Core.Bool.{Bool, true, false, cond, not, true≢false, false≢true}
 use mathlib.Core.Option.{none, some, Option·none-ne-some}
@@ -38,7 +38,8 @@ then-open (ended a b) x e = absurd (b x e)
 
 module _ (s : Search) (f g : Float) where
   taken : (waiting : Waiting) → s .stage ≡ Open waiting → (b : Bool) → answerFinite f g ≡ b
-      → Answered s f g (cond b (stepTo (s .setup) (evaluations (counted (s .evaluations .0))) (reactOf (s .setup) waiting f g))
+      → Answered s f g
+      (cond b (stepTo (s .setup) (evaluations (counted (s .evaluations .0))) (reactOf (s .setup) waiting f g))
       (stepTo (s .setup) (s .evaluations) (ending (keptOf waiting) (Refused SuppliedNotFinite))))
   unfolding given keptAt
   taken waiting w true e =

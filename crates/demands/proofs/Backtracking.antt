@@ -1,5 +1,6 @@
--- Demands 2 and 3 of every backtracking search that `start` gave: its outcomes and its count of iterations are those of 01's
--- rules; it is over after 1 + N answers; its evaluations are the finite answers accepted (`searches`). Assumes nothing.
+-- Demands 2 and 3 of every backtracking search that `start` gave: its outcomes and its count of iterations are those of
+-- 01's rules; it is over after 1 + N answers; its evaluations are the finite answers accepted (`searches`). Assumes
+-- nothing.
 use mathlib.Core.Path.{_≡_, refl, sym, ap, _∙_, subst}
 use mathlib.Core.Bool.{Bool, true, false, cond, not, false≢true}
 use mathlib.Core.List.{List, [], _∷_}
@@ -31,7 +32,16 @@ use Rattle.outcomes.specs.Asking.{
   tallied,
 }
 use Rattle.outcomes.specs.Counters.{counted}
-use Rattle.outcomes.proofs.Ends.{Ends, at-end, ends-if, ends-within, question-ends, ends-over, ends-accepted, non-finite-once}
+use Rattle.outcomes.proofs.Ends.{
+  Ends,
+  at-end,
+  ends-if,
+  ends-within,
+  question-ends,
+  ends-over,
+  ends-accepted,
+  non-finite-once,
+}
 use Rattle.outcomes.proofs.Branches.{either, by-test, and-second}
 use Rattle.outcomes.proofs.Machines as machines
 use Rattle.outcomes.proofs.Refusals.{Passed, all, and, passed}
@@ -55,7 +65,8 @@ limit-in-range s (and two (and three all)) = not-false _ three
 limit-fits : (s : Setup) → Passed (startRows s) → s .limit ≤ 10000
 limit-fits s ok =
     leb-true (s .limit) 10000
-    (and-second (leb 1 (s .limit)) (leb (s .limit) 10000) (and-second (parametersInRange s) (limitInRange (s .limit)) (limit-in-range s ok)))
+    (and-second (leb 1 (s .limit)) (leb (s .limit) 10000)
+    (and-second (parametersInRange s) (limitInRange (s .limit)) (limit-in-range s ok)))
 
 module _ (s : Setup) (n : Evaluations) (before now : Iterations) (t f g : Float) where
   tried-setup : triedOf s n before now t f g .search .setup ≡ s
@@ -67,7 +78,8 @@ module _ (s : Setup) (n : Evaluations) (before now : Iterations) (t f g : Float)
       (either (λ (r : Step). r .search .setup) (finite (t ⊗ s .rho)) _ _ s refl refl)))
       refl
 
-  tried-count : triedOf s n before now t f g .search .evaluations .0 ≡ cond (answerFinite (s .condition) f g) (counted (n .0)) (n .0)
+  tried-count : triedOf s n before now t f g .search .evaluations .0
+      ≡ cond (answerFinite (s .condition) f g) (counted (n .0)) (n .0)
   unfolding triedOf
   tried-count =
       by-test (λ (r : Step). r .search .evaluations .0) (answerFinite (s .condition) f g) _ _ (counted (n .0)) (n .0)
@@ -84,21 +96,28 @@ setup-kept b f g Over = refl
 
 accepts : (s : Setup) (k before now : ℕ) (t f g : Float) (ys : List Reply)
     → accepted (answerFinite (s .condition)) (trials s k before now t) ((f, g) ∷ ys)
-    ≡ cond (answerFinite (s .condition) f g) 1 0 + accepted (answerFinite (s .condition)) (respond (trials s k before now t) f g) ys
+    ≡ cond (answerFinite (s .condition) f g) 1 0
+    + accepted (answerFinite (s .condition)) (respond (trials s k before now t) f g) ys
 unfolding accepted trials respond
 accepts s zero before now t f g ys = refl
 accepts s (suc k) before now t f g ys = refl
 
 adds-by : (b : Backtracking) (f g : Float) (ys : List Reply) (stage : Stage) → b .evaluations .0 < 4294967295
-    → answerBy b f g stage .search .evaluations .0 + accepted (answerFinite (b .setup .condition)) (respond (meaning (b .setup) (b .iterations .0) stage) f g) ys
-    ≡ b .evaluations .0 + accepted (answerFinite (b .setup .condition)) (meaning (b .setup) (b .iterations .0) stage) ((f, g) ∷ ys)
+    → answerBy b f g stage .search .evaluations .0
+    + accepted (answerFinite (b .setup .condition)) (respond (meaning (b .setup) (b .iterations .0) stage) f g) ys
+    ≡ b .evaluations .0
+    + accepted (answerFinite (b .setup .condition)) (meaning (b .setup) (b .iterations .0) stage) ((f, g) ∷ ys)
 unfolding answerBy meaning
 adds-by b f g ys First h =
-    rw (accepts (b .setup) (b .setup .limit - b .iterations .0) (b .iterations .0) (b .iterations .0) (b .setup .alpha) f g ys)
-    (machines.adds-one (answerFinite (b .setup .condition) f g) (b .evaluations .0) _ _ h (tried-count (b .setup) (b .evaluations) (b .iterations) _ (b .setup .alpha) f g))
+    rw (accepts (b .setup) (b .setup .limit - b .iterations .0) (b .iterations .0) (b .iterations .0) (b .setup .alpha)
+    f g ys)
+    (machines.adds-one (answerFinite (b .setup .condition) f g) (b .evaluations .0) _ _ h
+    (tried-count (b .setup) (b .evaluations) (b .iterations) _ (b .setup .alpha) f g))
 adds-by b f g ys (Later t) h =
-    rw (accepts (b .setup) (b .setup .limit - counted (b .iterations .0)) (b .iterations .0) (counted (b .iterations .0)) t f g ys)
-    (machines.adds-one (answerFinite (b .setup .condition) f g) (b .evaluations .0) _ _ h (tried-count (b .setup) (b .evaluations) (b .iterations) _ t f g))
+    rw (accepts (b .setup) (b .setup .limit - counted (b .iterations .0)) (b .iterations .0)
+    (counted (b .iterations .0)) t f g ys)
+    (machines.adds-one (answerFinite (b .setup .condition) f g) (b .evaluations .0) _ _ h
+    (tried-count (b .setup) (b .evaluations) (b .iterations) _ t f g))
 adds-by b f g ys Over h = unfold respond in rw (machines.none-more _ _ ys, machines.none-more _ _ ((f, g) ∷ ys))
 
 asked-report : (s : Setup) (k before now : ℕ) (t : Float) → reported (trials s k before now t) ≡ before
@@ -111,7 +130,8 @@ unfolding trials isOver
 asked-open s zero before now t = refl
 asked-open s (suc k) before now t = refl
 
--- ---- the rules' search: it reports what the state counts, is not over while a trial is asked, and ends within 1 + N answers
+-- ---- the rules' search: it reports what the state counts, is not over while a trial is asked, and ends within 1 + N
+-- answers
 reports : (s : Setup) (i : ℕ) (stage : Stage) → reported (meaning s i stage) ≡ i
 unfolding meaning reported
 reports s i First = asked-report s (s .limit - i) i i (s .alpha)
@@ -124,9 +144,11 @@ over-is s i First = asked-open s (s .limit - i) i i (s .alpha)
 over-is s i (Later t) = asked-open s (s .limit - counted i) i (counted i) t
 over-is s i Over = refl
 
-trials-end : (s : Setup) (k before now : ℕ) (t : Float) → Ends (answerFinite (s .condition)) (suc k) (trials s k before now t)
+trials-end : (s : Setup) (k before now : ℕ) (t : Float)
+    → Ends (answerFinite (s .condition)) (suc k) (trials s k before now t)
 unfolding trials
-trials-end s zero before now t = question-ends before t _ (λ f g. ends-if (holdsOf (s .condition) (s .f0) (s .s0) t f g) at-end at-end)
+trials-end s zero before now t =
+    question-ends before t _ (λ f g. ends-if (holdsOf (s .condition) (s .f0) (s .s0) t f g) at-end at-end)
 trials-end s (suc k) before now t =
     question-ends before t _ (λ f g.
     ends-if (holdsOf (s .condition) (s .f0) (s .s0) t f g) at-end
@@ -153,30 +175,48 @@ module _ (s : Setup) where
   abbrev C : Float → Float → Bool
   C = answerFinite (s .condition)
 
-  ended-counts : (before now : ℕ) (o : Ended ℕ) (ys : List Reply) (a : ℕ) → o .keeps ≡ counted-by before now a → reported (after (end o) ys) ≡ counted-by before now (a + accepted C (end o) ys)
+  ended-counts : (before now : ℕ) (o : Ended ℕ) (ys : List Reply) (a : ℕ) → o .keeps ≡ counted-by before now a
+      → reported (after (end o) ys) ≡ counted-by before now (a + accepted C (end o) ys)
   ended-counts before now o ys a e =
       let z : a + 0 ≡ a = omega arith in
       ended-reports o ys ∙ rw (machines.none-more o C ys, z) e
 
-  trials-counted : (k before now : ℕ) (t : Float) (ys : List Reply) → reported (after (trials s k before now t) ys) ≡ counted-by before now (accepted C (trials s k before now t) ys)
+  trials-counted : (k before now : ℕ) (t : Float) (ys : List Reply)
+      → reported (after (trials s k before now t) ys) ≡ counted-by before now (accepted C (trials s k before now t) ys)
   unfolding trials reported after respond accepted counted-by
   trials-counted zero before now t [] = refl
   trials-counted (suc k) before now t [] = refl
-  trials-counted zero before now t (y ∷ ys) = by (C (y .0) (y .1)) (holdsOf (s .condition) (s .f0) (s .s0) t (y .0) (y .1))
+  trials-counted zero before now t (y ∷ ys) =
+      by (C (y .0) (y .1)) (holdsOf (s .condition) (s .f0) (s .s0) t (y .0) (y .1))
     where
-      by : (a h : Bool) → reported (after (cond a (cond h (over now (stop met t)) (over now (limit t))) (over before (refusal (answerNotFinite (y .0) (y .1))))) ys)
-          ≡ counted-by before now (cond a 1 0 + accepted C (cond a (cond h (over now (stop met t)) (over now (limit t))) (over before (refusal (answerNotFinite (y .0) (y .1))))) ys)
+      by : (a h : Bool)
+          → reported (after
+          (cond a (cond h (over now (stop met t)) (over now (limit t)))
+          (over before (refusal (answerNotFinite (y .0) (y .1))))) ys)
+          ≡ counted-by before now
+          (cond a 1 0
+          + accepted C
+          (cond a (cond h (over now (stop met t)) (over now (limit t)))
+          (over before (refusal (answerNotFinite (y .0) (y .1))))) ys)
       by true true = ended-counts before now _ ys 1 (omega arith)
       by true false = ended-counts before now _ ys 1 (omega arith)
       by false h = ended-counts before now _ ys 0 refl
-  trials-counted (suc k) before now t (y ∷ ys) = by (C (y .0) (y .1)) (holdsOf (s .condition) (s .f0) (s .s0) t (y .0) (y .1)) (finite (t ⊗ s .rho)) (trials-counted k now (now + 1) (t ⊗ s .rho) ys)
+  trials-counted (suc k) before now t (y ∷ ys) =
+      by (C (y .0) (y .1)) (holdsOf (s .condition) (s .f0) (s .s0) t (y .0) (y .1)) (finite (t ⊗ s .rho))
+      (trials-counted k now (now + 1) (t ⊗ s .rho) ys)
     where
       on : Bool → Search ℕ
       on x = cond x (trials s k now (now + 1) (t ⊗ s .rho)) (over now (refusal (stepNotFinite (t ⊗ s .rho))))
 
-      by : (a h x : Bool) → reported (after (trials s k now (now + 1) (t ⊗ s .rho)) ys) ≡ counted-by now (now + 1) (accepted C (trials s k now (now + 1) (t ⊗ s .rho)) ys)
-          → reported (after (cond a (cond h (over now (stop met t)) (on x)) (over before (refusal (answerNotFinite (y .0) (y .1))))) ys)
-          ≡ counted-by before now (cond a 1 0 + accepted C (cond a (cond h (over now (stop met t)) (on x)) (over before (refusal (answerNotFinite (y .0) (y .1))))) ys)
+      by : (a h x : Bool)
+          → reported (after (trials s k now (now + 1) (t ⊗ s .rho)) ys)
+          ≡ counted-by now (now + 1) (accepted C (trials s k now (now + 1) (t ⊗ s .rho)) ys)
+          → reported (after
+          (cond a (cond h (over now (stop met t)) (on x)) (over before (refusal (answerNotFinite (y .0) (y .1))))) ys)
+          ≡ counted-by before now
+          (cond a 1 0
+          + accepted C
+          (cond a (cond h (over now (stop met t)) (on x)) (over before (refusal (answerNotFinite (y .0) (y .1))))) ys)
       by true true x ih = ended-counts before now _ ys 1 (omega arith)
       by true false true ih = ih ∙ counts-on before now (accepted C (trials s k now (now + 1) (t ⊗ s .rho)) ys)
       by true false false ih = ended-counts before now _ ys 1 (omega arith)
@@ -211,10 +251,13 @@ module _ (s : Setup) (ok : Passed (startRows s)) where
   test = answerFinite (s .condition)
 
   adds : (c : Backtracking) → Fit c → (f g : Float) (zs : List Reply) → c .evaluations .0 < 4294967295
-      → next c f g .evaluations .0 + accepted test (respond (meant c) f g) zs ≡ c .evaluations .0 + accepted test (meant c) ((f, g) ∷ zs)
+      → next c f g .evaluations .0 + accepted test (respond (meant c) f g) zs
+      ≡ c .evaluations .0 + accepted test (meant c) ((f, g) ∷ zs)
   adds c e f g zs h =
-      subst (λ (u : Setup). next c f g .evaluations .0 + accepted (answerFinite (u .condition)) (respond (meant c) f g) zs
-      ≡ c .evaluations .0 + accepted (answerFinite (u .condition)) (meant c) ((f, g) ∷ zs)) e (adds-by c f g zs (c .stage) h)
+      subst (λ (u : Setup). next c f g .evaluations .0
+      + accepted (answerFinite (u .condition)) (respond (meant c) f g) zs
+      ≡ c .evaluations .0
+      + accepted (answerFinite (u .condition)) (meant c) ((f, g) ∷ zs)) e (adds-by c f g zs (c .stage) h)
 
   within : Ends test (1 + s .limit) (search s)
   within = ends-within (trials-end s (s .limit) 0 0 (s .alpha)) (1 + s .limit) (omega arith)
@@ -222,7 +265,8 @@ module _ (s : Setup) (ok : Passed (startRows s)) where
   asking-is : (c : Backtracking) → isAsking c ≡ not (isOver (meant c))
   asking-is c = ap not (sym (over-is (c .setup) (c .iterations .0) (c .stage)))
 
-  tallied-is : (passes : Float → Float → Bool) (ys : List Reply) → tallied next isAsking passes b ys ≡ accepted passes (search s) ys
+  tallied-is : (passes : Float → Float → Bool) (ys : List Reply)
+      → tallied next isAsking passes b ys ≡ accepted passes (search s) ys
   tallied-is passes ys =
       machines.tests-counted meant next says Fit fit-next leaves tells isAsking asking-is passes b refl ys
       ∙ ap (λ (r : Search ℕ). accepted passes r ys) (starts-whole s)
@@ -230,7 +274,8 @@ module _ (s : Setup) (ok : Passed (startRows s)) where
   reaches : {A : Type 0} (h : Search ℕ → A) → ((r : Search ℕ) → h (onceTold r) ≡ h r) → (ys : List Reply)
       → h (meant (reachedBy b ys)) ≡ h (after (search s) ys)
   reaches h e ys =
-      machines.reaches meant next says Fit fit-next leaves tells h e b refl ys ∙ ap (λ (r : Search ℕ). h (after r ys)) (starts-whole s)
+      machines.reaches meant next says Fit fit-next leaves tells h e b refl ys
+      ∙ ap (λ (r : Search ℕ). h (after r ys)) (starts-whole s)
 
   iterations-are : (ys : List Reply) → reachedBy b ys .iterations .0 ≡ reported (after (search s) ys)
   iterations-are ys =
@@ -242,25 +287,29 @@ module _ (s : Setup) (ok : Passed (startRows s)) where
 
   evaluations-are : (ys : List Reply) → reachedBy b ys .evaluations .0 ≡ tallied next isAsking test b ys
   evaluations-are ys =
-      let same : accepted test (meant b) ys ≡ accepted test (search s) ys = ap (λ (r : Search ℕ). accepted test r ys) (starts-whole s) in
+      let same : accepted test (meant b) ys ≡ accepted test (search s) ys =
+      ap (λ (r : Search ℕ). accepted test r ys) (starts-whole s) in
       let tally = tallied-is test ys in
       let few = few-finite ys in
       let l : s .limit ≤ 10000 = limit-fits s ok in
-      let c = machines.counts meant next says Fit fit-next leaves tells test (λ (c : Backtracking). c .evaluations .0) adds b refl ys (omega arith) in
+      let c = machines.counts meant next says Fit fit-next leaves tells test (λ (c : Backtracking). c .evaluations .0)
+      adds b refl ys (omega arith) in
       omega arith
 
   of-fresh : Searches s (fresh s)
   of-fresh = record {
     first-ask = sym (asked-shown s (s .limit) 0 0 (s .alpha));
     outcomes-are-rules = λ ys.
-        machines.plays meant next says Fit fit-next leaves tells b refl ys ∙ ap (λ (r : Search ℕ). outcomes r ys) (starts-whole s);
+        machines.plays meant next says Fit fit-next leaves tells b refl ys
+        ∙ ap (λ (r : Search ℕ). outcomes r ys) (starts-whole s);
     iterations-are-rules = iterations-are;
     iterations-counted = λ ys.
         rw (tallied-is test ys)
         (iterations-are ys ∙ trials-counted s (s .limit) 0 0 (s .alpha) ys ∙ one-fewer s (accepted test (search s) ys));
     search-ends = λ ys h.
         let c = reachedBy b ys in
-        sym (over-is (c .setup) (c .iterations .0) (c .stage)) ∙ reaches isOver machines.over-rests ys ∙ ends-over within ys h;
+        sym (over-is (c .setup) (c .iterations .0) (c .stage)) ∙ reaches isOver machines.over-rests ys
+        ∙ ends-over within ys h;
     evaluations-counted = evaluations-are;
     evaluations-bounded = few-finite;
     non-finite-once = λ ys. rw (tallied-is (λ f g. not (test f g)) ys) (non-finite-once within ys);

@@ -1,5 +1,5 @@
--- Demand 1: every function that can refuse does so by its table, and leaves what 01 says (`demand1`). A result is defined as the
--- first row that holds, so the tables are read off the definitions. Assumes nothing.
+-- Demand 1: every function that can refuse does so by its table, and leaves what 01 says (`demand1`). A result is
+-- defined as the first row that holds, so the tables are read off the definitions. Assumes nothing.
 use mathlib.Core.Path.{_≡_, refl, sym, ap, _∙_}
 use mathlib.Core.List.{List}
 use Prim.Native.Nat.{ℕ}

@@ -1,5 +1,5 @@
--- Demand 2 of every Hager-Zhang search that `start` gave: what it tells and holds is what 01's rules tell and report, which
--- never come to the Rust's error; and 01's empty programs break it (`demand2`). Assumes nothing.
+-- Demand 2 of every Hager-Zhang search that `start` gave: what it tells and holds is what 01's rules tell and report,
+-- which never come to the Rust's error; and 01's empty programs break it (`demand2`). Assumes nothing.
 use mathlib.Core.Path.{_≡_, refl, sym, ap, _∙_, subst}
 use mathlib.Core.Bool.{true, false≢true}
 use mathlib.Core.List.{List}
@@ -39,11 +39,13 @@ first-step : (s : Setup) → shown (search s) ≡ asks (s .options .params .min)
 unfolding search shown
 first-step s = refl
 
-second-step : (s : Setup) (f g : Float) → answerFinite f g ≡ true → shown (respond (search s) f g) ≡ asks (s .options .params .max)
+second-step : (s : Setup) (f g : Float) → answerFinite f g ≡ true
+    → shown (respond (search s) f g) ≡ asks (s .options .params .max)
 unfolding search shown respond askHigh
 second-step s f g e = rw e
 
-left-asks : (s : Setup) (f g : Float) → answerFinite f g ≡ true → shown (onceTold (respond (search s) f g)) ≡ asks (s .options .params .max)
+left-asks : (s : Setup) (f g : Float) → answerFinite f g ≡ true
+    → shown (onceTold (respond (search s) f g)) ≡ asks (s .options .params .max)
 unfolding search shown respond onceTold askHigh
 left-asks s f g e = rw e
 
@@ -56,7 +58,8 @@ module _ (o : Options) (f0 s0 : Float) (ok : Passed (startRows o f0 s0)) where
 
   bounds-differ : o .params .min ≡ o .params .max → ⊥
   bounds-differ same =
-      false≢true (sym (lt-irrefl (o .params .max)) ∙ subst (λ (x : Float). x <ᶠ o .params .max ≡ true) same (low-below-high o f0 s0 ok))
+      false≢true (sym (lt-irrefl (o .params .max))
+      ∙ subst (λ (x : Float). x <ᶠ o .params .max ≡ true) same (low-below-high o f0 s0 ok))
 
   module _ (f g : Float) (fine : answerFinite f g ≡ true) (r : Step) (by : Follows b f g r) where
     -- what follows the rules asks max
@@ -75,11 +78,13 @@ module _ (o : Options) (f0 s0 : Float) (ok : Passed (startRows o f0 s0)) where
     other-state : r .search ≡ b → ⊥
     other-state e =
         bounds-differ (same-step (o .params .min) (o .params .max)
-        (sym (first-step s) ∙ ap shown (sym (starts-whole s)) ∙ ap (λ (c : Search). shown (meant c)) (sym e) ∙ leaves-max))
+        (sym (first-step s) ∙ ap shown (sym (starts-whole s)) ∙ ap (λ (c : Search). shown (meant c)) (sym e)
+        ∙ leaves-max))
 
   no-refused-start : (k : Refusal) → Starts o f0 s0 (NoSearch k) → ⊥
   no-refused-start k starts =
-      Option·none-ne-some (numberOf k) (sym (ap refusedBy (starts .stands-for ∙ value-given (startRows o f0 s0) (search s) ok)))
+      Option·none-ne-some (numberOf k)
+      (sym (ap refusedBy (starts .stands-for ∙ value-given (startRows o f0 s0) (search s) ok)))
 
   of-fresh : ByRules o f0 s0 (fresh s)
   of-fresh = record {

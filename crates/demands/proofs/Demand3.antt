@@ -1,5 +1,5 @@
--- Demand 3 of every Hager-Zhang search that `start` gave: its bracket, its bounds and its counts (`demand3`). From the rules
--- (rules/proofs/Demand3.antt), which the machine tells, holds and counts. Assumes nothing.
+-- Demand 3 of every Hager-Zhang search that `start` gave: its bracket, its bounds and its counts (`demand3`). From the
+-- rules (rules/proofs/Demand3.antt), which the machine tells, holds and counts. Assumes nothing.
 use mathlib.Core.Path.{_≡_, refl, sym, ap, _∙_, subst}
 use mathlib.Core.Bool.{Bool, true, false, false≢true}
 use mathlib.Core.List.{List, [], _∷_}
@@ -68,10 +68,11 @@ is-limit (stop w y) = false
 is-limit (limit y) = true
 is-limit (refusal n) = false
 
-limit-reached : (s : Setup) (k : Report) (asked : List Point) (e : Ending Why) (x : Float) → Ends s k asked e → numbered e ≡ limit x
-    → AtLimit (s .options .limit) x k
+limit-reached : (s : Setup) (k : Report) (asked : List Point) (e : Ending Why) (x : Float) → Ends s k asked e
+    → numbered e ≡ limit x → AtLimit (s .options .limit) x k
 unfolding step-at is-limit
-limit-reached s k asked e x (at-limit {p = p} fails n) is = record { p = p; holds = refl; iterations = n; best = ap (step-at x) is }
+limit-reached s k asked e x (at-limit {p = p} fails n) is =
+    record { p = p; holds = refl; iterations = n; best = ap (step-at x) is }
 limit-reached s k asked e x (verdict j) is = absurd (false≢true (ap is-limit is))
 limit-reached s k asked e x (not-finite u) is = absurd (false≢true (ap is-limit is))
 limit-reached s k asked e x (trial-not-finite t a u) is = absurd (false≢true (ap is-limit is))
@@ -92,7 +93,9 @@ module _ (o : Options) (f0 s0 : Float) (ok : Passed (startRows o f0 s0)) where
   b = t .search
 
   within : EndsWithin answerFinite (3 + o .limit * (3 + 3 * o .budget)) (search s)
-  within = search-within s (level-finite o f0 s0 ok) (min-finite o f0 s0 ok) (max-finite o f0 s0 ok) (start-finite o f0 s0 ok)
+  within =
+      search-within s (level-finite o f0 s0 ok) (min-finite o f0 s0 ok) (max-finite o f0 s0 ok)
+      (start-finite o f0 s0 ok)
 
   few-finite : (ys : List Reply) → finiteBy b ys ≤ 30030003
   few-finite ys =
@@ -111,7 +114,8 @@ module _ (o : Options) (f0 s0 : Float) (ok : Passed (startRows o f0 s0)) where
   ended ys y x (ask k z then) is e = absurd (asks-not-ends z (limit x) (sym e))
   ended ys y x (end e) is shows =
       limit-reached s (e .keeps) (under-way [] (search s) (one-more ys y)) (e .by) x
-      (rules.ends o f0 s0 ok (one-more ys y) (e .keeps) (e .by) (after-one-more (search s) ys y ∙ is)) (same-end (numbered (e .by)) (limit x) shows)
+      (rules.ends o f0 s0 ok (one-more ys y) (e .keeps) (e .by) (after-one-more (search s) ys y ∙ is))
+      (same-end (numbered (e .by)) (limit x) shows)
 
   of-fresh : Bounded o f0 s0 t
   of-fresh = record {
@@ -119,10 +123,12 @@ module _ (o : Options) (f0 s0 : Float) (ok : Passed (startRows o f0 s0)) where
         rules.bracket-stays o f0 s0 ok ya yb yc premise ys p (sym (report-at o f0 s0 ok (ya ∷ yb ∷ yc ∷ ys)) ∙ e);
     bracket-narrows = λ ya yb yc ys premise y p q e e' n.
         let given = ya ∷ yb ∷ yc ∷ ys in
-        rules.bracket-narrows o f0 s0 ok ya yb yc premise ys y p q (sym (report-at o f0 s0 ok given) ∙ e) (sym (report-next o f0 s0 ok given y) ∙ e') n;
+        rules.bracket-narrows o f0 s0 ok ya yb yc premise ys y p q (sym (report-at o f0 s0 ok given) ∙ e)
+        (sym (report-next o f0 s0 ok given y) ∙ e') n;
     each-iteration = λ ys y p q e e' n.
         rw (asked-at o f0 s0 ok ys y)
-        (rules.each-iteration o f0 s0 ok ys y p q (sym (report-at o f0 s0 ok ys) ∙ e) (sym (report-next o f0 s0 ok ys y) ∙ e') n);
+        (rules.each-iteration o f0 s0 ok ys y p q (sym (report-at o f0 s0 ok ys) ∙ e)
+        (sym (report-next o f0 s0 ok ys y) ∙ e') n);
     iteration-bounded = λ ys. rw (asked-by o f0 s0 ok ys) (rules.iteration-bounded o f0 s0 ok ys);
     search-ends = λ ys h. over-at o f0 s0 ok ys ∙ ends-over within ys h;
     evaluations-counted = λ ys.
@@ -131,12 +137,15 @@ module _ (o : Options) (f0 s0 : Float) (ok : Passed (startRows o f0 s0)) where
         evaluations-are o f0 s0 ok ys (omega arith) ∙ sym same;
     evaluations-bounded = few-finite;
     each-answer = λ ys y.
-        rw (asked-at o f0 s0 ok ys y, report-at o f0 s0 ok ys, report-next o f0 s0 ok ys y) (rules.each-answer o f0 s0 ok ys y);
+        rw (asked-at o f0 s0 ok ys y, report-at o f0 s0 ok ys, report-next o f0 s0 ok ys y)
+        (rules.each-answer o f0 s0 ok ys y);
     iterations-counted = λ ys.
-        ap iterationsIn (report-at o f0 s0 ok ys) ∙ rules.iterations-counted o f0 s0 ok ys ∙ sym (finished-at o f0 s0 ok ys);
+        ap iterationsIn (report-at o f0 s0 ok ys) ∙ rules.iterations-counted o f0 s0 ok ys
+        ∙ sym (finished-at o f0 s0 ok ys);
     iterations-bounded = λ ys. few-iterations ys (report (reachedBy b ys)) refl;
     at-limit = λ ys y x e.
-        rw (report-next o f0 s0 ok ys y) (ended ys y x (respond (after (search s) ys) (y .0) (y .1)) refl (sym (told-at o f0 s0 ok ys y) ∙ e));
+        rw (report-next o f0 s0 ok ys y)
+        (ended ys y x (respond (after (search s) ys) (y .0) (y .1)) refl (sym (told-at o f0 s0 ok ys y) ∙ e));
     non-finite-once = λ ys. rw (tallied-is o f0 s0 ok _ ys) (non-finite-once within ys);
   }
 

@@ -1,5 +1,5 @@
--- 01, "How tight the contracts are": any two results that a contract allows are identical (`all-determined`), over the names
--- that the contracts cite. Assumes nothing.
+-- 01, "How tight the contracts are": any two results that a contract allows are identical (`all-determined`), over the
+-- names that the contracts cite. Assumes nothing.
 use mathlib.Core.Path.{sym, _∙_}
 use Rattle.text.proofs.Writing.{writes-determined}
 use Rattle.vectors.proofs.Determined.{dot-determined, point-determined}

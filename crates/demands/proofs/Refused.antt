@@ -138,7 +138,8 @@ module _ (o : Options) (f0 s0 : Float) (ok : Passed (startRows o f0 s0)) where
     true-of = rules.ends o f0 s0 ok (one-more ys y) (o' .keeps) (o' .by) (after-one-more (search s) ys y ∙ is);
   }
 
-  shown-next : (ys : List Reply) (y : Reply) → shown (after (search s) (one-more ys y)) ≡ shown (respond (after (search s) ys) (y .0) (y .1))
+  shown-next : (ys : List Reply) (y : Reply)
+      → shown (after (search s) (one-more ys y)) ≡ shown (respond (after (search s) ys) (y .0) (y .1))
   shown-next ys y = ap shown (after-one-more (search s) ys y)
 
   goes-on-in : (ys : List Reply) (y : Reply) (p : Last) (h : Point) (k : Float) (r : Rest Report)

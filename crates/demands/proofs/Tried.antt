@@ -1,5 +1,5 @@
--- 01's table of refusals for backtracking: an answer to any state is refused by exactly the rows of specs/Backtracking.antt,
--- and leaves what is said there (`answered`). Assumes nothing.
+-- 01's table of refusals for backtracking: an answer to any state is refused by exactly the rows of
+-- specs/Backtracking.antt, and leaves what is said there (`answered`). Assumes nothing.
 use mathlib.Core.Path.{_≡_, refl, sym, ap, _∙_}
 use mathlib.Core.Bool.{Bool, true, false, cond, not, false≢true}
 use mathlib.Core.Option.{none, some, Option·none-ne-some}
@@ -27,7 +27,8 @@ use Rattle.backtracking.specs.Machine.{madeOf, triedOf, answerBy, answerOf, Ans
 use Rattle.demands.specs.Backtracking.{triedOut, nextTrial, trialDue, notFinite, trialsRows, trialsKept, Tried}
 
 -- a trial at t, with which `now` iterations are counted
-module _ (b : Backtracking) (f g : Float) (stage : Trying) (w : b .stage ≡ stage) (o : triedOut stage ≡ false) (now : Iterations) (t : Float)
+module _ (b : Backtracking) (f g : Float) (stage : Trying) (w : b .stage ≡ stage) (o : triedOut stage ≡ false)
+    (now : Iterations) (t : Float)
     (due : trialDue b stage f g ≡ nextTrial (b .setup) (now .0) t f g)
     (kept : trialsKept b stage f g ≡ cond (answerFinite (b .setup .condition) f g) (now .0) (b .iterations .0)) where
   abbrev s : Trials
@@ -39,20 +40,26 @@ module _ (b : Backtracking) (f g : Float) (stage : Trying) (w : b .stage ≡ sta
   not-over : {A : Type 0} → triedOut (b .stage) ≡ true → A
   not-over q = absurd (false≢true (sym runs ∙ q))
 
-  rows : given (trialsRows b f g) ≡ cond (not (answerFinite (s .condition) f g)) (some 2) (cond (notFinite (nextTrial s (now .0) t f g)) (some 5) none)
+  rows : given (trialsRows b f g)
+      ≡ cond (not (answerFinite (s .condition) f g)) (some 2)
+      (cond (notFinite (nextTrial s (now .0) t f g)) (some 5) none)
   unfolding given
   rows = rw (runs, ap (λ (at : Trying). trialDue b at f g) w ∙ due)
 
-  kept-if : (a : Bool) → answerFinite (s .condition) f g ≡ a → cond a (now .0) (b .iterations .0) ≡ trialsKept b (b .stage) f g
-  kept-if a e = sym (ap (λ (at : Trying). trialsKept b at f g) w ∙ kept ∙ ap (λ (v : Bool). cond v (now .0) (b .iterations .0)) e)
+  kept-if : (a : Bool) → answerFinite (s .condition) f g ≡ a
+      → cond a (now .0) (b .iterations .0) ≡ trialsKept b (b .stage) f g
+  kept-if a e =
+      sym (ap (λ (at : Trying). trialsKept b at f g) w ∙ kept ∙ ap (λ (v : Bool). cond v (now .0) (b .iterations .0)) e)
 
-  tries : (a h l x : Bool) → answerFinite (s .condition) f g ≡ a → holdsOf (s .condition) (s .f0) (s .s0) t f g ≡ h → leb (s .limit) (now .0) ≡ l → finite (t ⊗ s .rho) ≡ x
+  tries : (a h l x : Bool) → answerFinite (s .condition) f g ≡ a → holdsOf (s .condition) (s .f0) (s .s0) t f g ≡ h
+      → leb (s .limit) (now .0) ≡ l → finite (t ⊗ s .rho) ≡ x
       → Tried b f g
       (let m = evaluations (counted (b .evaluations .0)) in
       cond a
       (cond h (madeOf s m now TriedOut (Stop Met t))
       (cond l (madeOf s m now TriedOut (Limit t))
-      (cond x (madeOf s m now (Later (t ⊗ s .rho)) (Ask (t ⊗ s .rho))) (madeOf s m now TriedOut (Refused StepNotFinite)))))
+      (cond x (madeOf s m now (Later (t ⊗ s .rho)) (Ask (t ⊗ s .rho)))
+      (madeOf s m now TriedOut (Refused StepNotFinite)))))
       (madeOf s (b .evaluations) (b .iterations) TriedOut (Refused SuppliedNotFinite)))
   unfolding inOrder
   tries false h l x ea eh el ex = record { refused-by = record { exactly = rw (rows, ea); ordered = refl }; unchanged = not-over; over = λ e q. refl; keeps = λ n q. kept-if false ea; counts = rw (runs, ea) }
@@ -65,7 +72,8 @@ module _ (b : Backtracking) (f g : Float) (stage : Trying) (w : b .stage ≡ sta
   tried : Tried b f g (triedOf s (b .evaluations) (b .iterations) now t f g)
   unfolding triedOf
   tried =
-      tries (answerFinite (s .condition) f g) (holdsOf (s .condition) (s .f0) (s .s0) t f g) (leb (s .limit) (now .0)) (finite (t ⊗ s .rho)) refl refl refl refl
+      tries (answerFinite (s .condition) f g) (holdsOf (s .condition) (s .f0) (s .s0) t f g) (leb (s .limit) (now .0))
+      (finite (t ⊗ s .rho)) refl refl refl refl
 
 by-stage : (b : Backtracking) (f g : Float) (stage : Trying) → b .stage ≡ stage → Tried b f g (answerBy b f g stage)
 unfolding answerBy given inOrder

@@ -1,6 +1,6 @@
--- 01, "How tight the contracts are": a program that "hands the state back untouched" would satisfy demand 3's bracket clause,
--- "so that clause is read over 2's rules": where its bracket is one, it stays one, after any answers (`untouched-keeps`).
--- Demand 2 shuts it out (`untouched-shut-out`, specs/Demand2.antt). Assumes nothing.
+-- 01, "How tight the contracts are": a program that "hands the state back untouched" would satisfy demand 3's bracket
+-- clause, "so that clause is read over 2's rules": where its bracket is one, it stays one, after any answers
+-- (`untouched-keeps`). Demand 2 shuts it out (`untouched-shut-out`, specs/Demand2.antt). Assumes nothing.
 use mathlib.Core.List.{List, [], _∷_}
 use lib.Ieee.{Float}
 use Rattle.outcomes.specs.Asking.{Reply, reached}

@@ -1,5 +1,5 @@
--- Demands 1 to 3 of backtracking: what an answer to any state refuses and leaves; and, of a search that `start` gave, t, for
--- every list of answers, that it is 01's, that it ends, and what it counts.
+-- Demands 1 to 3 of backtracking: what an answer to any state refuses and leaves; and, of a search that `start` gave,
+-- t, for every list of answers, that it is 01's, that it ends, and what it counts.
 use Prim.Native.Nat.{ℕ, _+_, _-_, _≤_}
 use mathlib.Core.Path.{_≡_}
 use mathlib.Core.Bool.{Bool, true, false, cond, not, _||_}
@@ -32,7 +32,8 @@ triedOut First = false
 triedOut (Later t) = false
 triedOut TriedOut = true
 
--- the next trial's step, if one is due: the trial at t did not meet the condition, and `now` iterations are fewer than N
+-- the next trial's step, if one is due: the trial at t did not meet the condition, and `now` iterations are
+-- fewer than N
 abbrev pub nextTrial : Trials → ℕ → Float → Float → Float → Option Float
 nextTrial s now t f g =
     cond (holdsOf (s .condition) (s .f0) (s .s0) t f g || leb (s .limit) now) none (some (t ⊗ s .rho))
@@ -53,8 +54,8 @@ trialsRows b f g =
     ∷ (5, notFinite (trialDue b (b .stage) f g))
     ∷ []
 
--- What a refusal leaves: "it keeps the iteration count from before that trial". A finite answer's own trial is counted; 5 is
--- the next one's.
+-- What a refusal leaves: "it keeps the iteration count from before that trial". A finite answer's own trial is counted;
+-- 5 is the next one's.
 abbrev pub trialsKept : Backtracking → Trying → Float → Float → ℕ
 trialsKept b First f g = b .iterations .0
 trialsKept b (Later t) f g =

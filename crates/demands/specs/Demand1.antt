@@ -1,6 +1,6 @@
--- Demand 1: "Any input gets an answer. Non-finite numbers, bad parameters, a spent U3 budget, a stalled U3 and calls after the
--- end are refused by number. Document 01 fixes each refusal, the state after it and any lent buffer." Every public function
--- is total by its contract; here is what each refuses, and what a refusal leaves.
+-- Demand 1: "Any input gets an answer. Non-finite numbers, bad parameters, a spent U3 budget, a stalled U3 and calls
+-- after the end are refused by number. Document 01 fixes each refusal, the state after it and any lent buffer." Every
+-- public function is total by its contract; here is what each refuses, and what a refusal leaves.
 use Prim.Native.Nat.{ℕ}
 use mathlib.Core.Path.{_≡_}
 use mathlib.Core.Bool.{true, false, cond, not, _&&_}
@@ -67,7 +67,8 @@ pub record Answered (s : Search) (f g : Float) (r : Step) : Type 0 where
   pub keeps : isOver (s .stage) ≡ false → answerFinite f g ≡ false → report (r .search) ≡ report s
   -- "Evaluations count every finite answer accepted, those of a refused iteration too."
   pub counts : r .search .evaluations .0
-      ≡ cond (isOver (s .stage)) (s .evaluations .0) (cond (answerFinite f g) (counted (s .evaluations .0)) (s .evaluations .0))
+      ≡ cond (isOver (s .stage)) (s .evaluations .0)
+      (cond (answerFinite f g) (counted (s .evaluations .0)) (s .evaluations .0))
 
 -- ---- an answer to a search that `start` gave: why it is refused, and what is asked
 

@@ -65,8 +65,8 @@ module _ (o : Options) (f0 s0 : Float) (t : Step) where
         → report (reachedBy b (one-more (ya ∷ yb ∷ yc ∷ ys) y)) ≡ last q
         → q .iterations ≡ p .iterations + 1
         → Within (p .bracket) (q .bracket)
-    -- "Each end is, bit for bit, a former end or a step asked in that iteration with its answer": whatever the slopes are;
-    -- and its answers are those of a whole iteration
+    -- "Each end is, bit for bit, a former end or a step asked in that iteration with its answer": whatever the slopes
+    -- are; and its answers are those of a whole iteration
     pub each-iteration : (ys : List Reply) (y : Reply) (p q : Last)
         → report (reachedBy b ys) ≡ last p
         → report (reachedBy b (one-more ys y)) ≡ last q

@@ -1,5 +1,5 @@
--- What any answer to any state leaves and counts: the setup stays, a finite answer to a search that asks is one more evaluation, and what a state holds is what the rules
--- that it stands for report. Assumes nothing.
+-- What any answer to any state leaves and counts: the setup stays, a finite answer to a search that asks is one more
+-- evaluation, and what a state holds is what the rules that it stands for report. Assumes nothing.
 use mathlib.Core.Path.{_≡_, refl, sym, ap, _∙_}
 use mathlib.Core.Bool.{cond, _&&_}
 use Prim.Native.Nat.{ℕ}
@@ -52,7 +52,17 @@ use Rattle.hagerzhang.specs.Machine.{
   takenOf,
   answerBy,
 }
-use Rattle.hagerzhang.specs.Meaning.{keptReport, dueTold, OfTheStep, not-refused, six, five, seven, meaning, meant}
+use Rattle.hagerzhang.specs.Meaning.{
+  keptReport,
+  dueTold,
+  OfTheStep,
+  not-refused,
+  six,
+  five,
+  seven,
+  meaning,
+  meant,
+}
 
 pub setup-kept : (b : Search) (f g : Float) (stage : Stage) → answerBy b f g stage .search .setup ≡ b .setup
 unfolding answerBy takenOf
@@ -60,10 +70,12 @@ setup-kept b f g (Open waiting) = either (λ (r : Step). r .search .setup) (answ
 setup-kept b f g (Over kept) = refl
 
 pub one-more-if-finite : (b : Search) (f g : Float) (waiting : Waiting)
-    → answerBy b f g (Open waiting) .search .evaluations .0 ≡ cond (answerFinite f g) (counted (b .evaluations .0)) (b .evaluations .0)
+    → answerBy b f g (Open waiting) .search .evaluations .0
+    ≡ cond (answerFinite f g) (counted (b .evaluations .0)) (b .evaluations .0)
 unfolding answerBy takenOf
 one-more-if-finite b f g waiting =
-    by-test (λ (r : Step). r .search .evaluations .0) (answerFinite f g) _ _ (counted (b .evaluations .0)) (b .evaluations .0) refl refl
+    by-test (λ (r : Step). r .search .evaluations .0) (answerFinite f g) _ _ (counted (b .evaluations .0))
+    (b .evaluations .0) refl refl
 
 -- what is held and what is awaited are what the rules report and await
 pub reports : (s : Setup) (stage : Stage) → reported (meaning s stage) ≡ keptReport (keptAt stage)
@@ -87,7 +99,8 @@ awaited-promised s r e = (e, ap dueTold e ∙ sym (awaited (s .setup) (s .stage)
 -- what is told is an ask exactly while the search is not over
 pub data Said : Stage → Outcome → Type 0 where
   goes-on : {waiting : Waiting} {x : Float} → Said (Open waiting) (Ask x)
-  ended : {kept : Kept} {o : Outcome} → OfTheStep (refusalIn (told o)) → ((x : Float) → told o ≡ asks x → ⊥) → Said (Over kept) o
+  ended : {kept : Kept} {o : Outcome} → OfTheStep (refusalIn (told o)) → ((x : Float) → told o ≡ asks x → ⊥)
+      → Said (Over kept) o
 
 data Fine : Tested → Type 0 where
   tries : {u : Bracket} {t : Trial} → Fine (Asks u t)
@@ -112,7 +125,8 @@ probe-fine theta t h k left =
 
 tested-fine : (theta best : Float) (m : Move) → Fine (testedOf theta best m)
 unfolding testedOf attemptOf
-tested-fine theta best (Try u t) = if-so Fine (finite (t .x)) (λ e. tries) (λ e. stops five (λ x q. asks-not-ends x _ q))
+tested-fine theta best (Try u t) =
+    if-so Fine (finite (t .x)) (λ e. tries) (λ e. stops five (λ x q. asks-not-ends x _ q))
 tested-fine theta best (Narrow t h k left) = probe-fine theta t h k left
 tested-fine theta best (ByVerdict v) = stops not-refused (λ x q. asks-not-ends x _ q)
 tested-fine theta best ByLimit = stops not-refused (λ x q. asks-not-ends x _ q)
@@ -125,7 +139,8 @@ unfolding wentOf
 went-said s fin (Go m) = made-said (s .options .params .theta) fin m
 went-said s fin (Close u) = made-said (s .options .params .theta) _ _
 
-pub react-said : (s : Setup) (waiting : Waiting) (f g : Float) → let n = reactOf s waiting f g in Said (n .stage) (n .outcome)
+pub react-said : (s : Setup) (waiting : Waiting) (f g : Float) → let n = reactOf s waiting f g in
+    Said (n .stage) (n .outcome)
 unfolding reactOf
 react-said s Low f g = goes-on
 react-said s (High a) f g = goes-on

@@ -1,5 +1,5 @@
--- One answer to the machine is one answer to 01's rules: what the next state stands for is what the rules leave, and what is told is what they tell
--- (`answers`). Of the state only: its limit is a u32, and its L is no NaN.
+-- One answer to the machine is one answer to 01's rules: what the next state stands for is what the rules leave, and
+-- what is told is what they tell (`answers`). Of the state only: its limit is a u32, and its L is no NaN.
 use mathlib.Core.Path.{_≡_, refl, ap, _∙_}
 use mathlib.Core.Bool.{Bool, true, false, cond, _&&_}
 use Prim.Native.Nat.{ℕ, zero, suc, _+_, _-_, _≤_, _<_}
@@ -147,8 +147,11 @@ module _ (s : Setup) (fin : Finished) where
   put t = denote s (madeBy fin t)
 
   -- a trial (5)
-  tries : (rule : Rule) (w : Bracket) (x : Float) → moved (tryAt w rule x) ≡ seen (trial s (keeping k) k x (λ c. update s (keeping k) k w c (afterTrial s fin rule x)))
-  unfolding attemptOf testedOf madeBy trial onAnswer onAsked keptOf stepOf stepAsked keptReport denote seen onceTold shown meaning
+  tries : (rule : Rule) (w : Bracket) (x : Float)
+      → moved (tryAt w rule x)
+      ≡ seen (trial s (keeping k) k x (λ c. update s (keeping k) k w c (afterTrial s fin rule x)))
+  unfolding attemptOf testedOf madeBy trial onAnswer onAsked keptOf stepOf stepAsked keptReport denote seen onceTold
+      shown meaning
   tries rule w x = picks put (finite x) _ _ _ _ refl refl
 
 -- ---- the start or an iteration is finished: the verdict, the limit, and S1 of the next iteration
@@ -173,7 +176,8 @@ module _ (s : Setup) (h : s .options .limit < 4294967296) (w : Bracket) (c : Poi
   unfolding onwards testedOf madeBy denote seen onceTold shown keptReport meaning
   limits n e = rw e
 
-  begins : (n : ℕ) → counted i ≡ i + 1 → n ≡ suc (N - counted i) → moved s done (tryAt w ByS1 (secantOf (w .a) (w .b))) ≡ seen (onwards n)
+  begins : (n : ℕ) → counted i ≡ i + 1 → n ≡ suc (N - counted i)
+      → moved s done (tryAt w ByS1 (secantOf (w .a) (w .b))) ≡ seen (onwards n)
   unfolding onwards iteration afterTrial trial
   begins n p e = rw (e, ← p) (tries s done ByS1 w (secantOf (w .a) (w .b)))
 
@@ -181,7 +185,8 @@ module _ (s : Setup) (h : s .options .limit < 4294967296) (w : Bracket) (c : Poi
   unfolding outlookBy
   unjudged = go (leb N i) refl
     where
-      go : (b : Bool) → leb N i ≡ b → moved s done (cond b ByLimit (tryAt w ByS1 (secantOf (w .a) (w .b)))) ≡ seen (onwards (N - i))
+      go : (b : Bool) → leb N i ≡ b
+          → moved s done (cond b ByLimit (tryAt w ByS1 (secantOf (w .a) (w .b)))) ≡ seen (onwards (N - i))
       go true e = limits (N - i) (let l : N ≤ i = leb-true N i e in omega arith)
       go false e =
           let l : i < N = leb-false N i e in
@@ -208,23 +213,31 @@ module _ (s : Setup) (h : s .options .limit < 4294967296) (fin : Finished) where
   closes v = settles s h v (fin .start) (counted (fin .iterations .0))
 
   -- a further trial, or otherwise what follows
-  tried : (u : Bracket) (rule : Rule) (otherwise : Then) (then : Bracket → Rest Report) (f : Further) → went s fin otherwise ≡ seen (then u)
-      → ((x : Float) → then ≡ afterTrial s fin rule x) → went s fin (triedBy u rule otherwise f) ≡ seen (further s (keeping (lastOf fin)) (lastOf fin) f u then)
+  tried : (u : Bracket) (rule : Rule) (otherwise : Then) (then : Bracket → Rest Report) (f : Further)
+      → went s fin otherwise ≡ seen (then u)
+      → ((x : Float) → then ≡ afterTrial s fin rule x)
+      → went s fin (triedBy u rule otherwise f) ≡ seen (further s (keeping (lastOf fin)) (lastOf fin) f u then)
   unfolding triedBy further wentOf
   tried u rule otherwise then (At x) e same = rw (same x) (tries s fin rule u x)
   tried u rule otherwise then Nothing e same = e
 
-  after-S4 : (v : Bracket) → went s fin (afterS4Of gamma (fin .bracket) v) ≡ seen (afterS4 s (keeping (lastOf fin)) (lastOf fin) (fin .bracket) v (ended s fin))
+  after-S4 : (v : Bracket)
+      → went s fin (afterS4Of gamma (fin .bracket) v)
+      ≡ seen (afterS4 s (keeping (lastOf fin)) (lastOf fin) (fin .bracket) v (ended s fin))
   unfolding afterS4 afterTrial
   after-S4 v = tried v ByL2 (Close v) (ended s fin) (L2 gamma (fin .bracket) v) (closes v) (λ x. refl)
 
-  after-S1 : (c : Float) (u : Bracket) → went s fin (afterS1Of gamma (fin .bracket) c u) ≡ seen (afterS1 s (keeping (lastOf fin)) (lastOf fin) (fin .bracket) c u (ended s fin))
+  after-S1 : (c : Float) (u : Bracket)
+      → went s fin (afterS1Of gamma (fin .bracket) c u)
+      ≡ seen (afterS1 s (keeping (lastOf fin)) (lastOf fin) (fin .bracket) c u (ended s fin))
   unfolding afterS1 afterTrial
   after-S1 c u =
-      tried u ByS4 (afterS4Of gamma (fin .bracket) u) (λ v. afterS4 s (keeping (lastOf fin)) (lastOf fin) (fin .bracket) v (ended s fin))
+      tried u ByS4 (afterS4Of gamma (fin .bracket) u)
+      (λ v. afterS4 s (keeping (lastOf fin)) (lastOf fin) (fin .bracket) v (ended s fin))
       (S4 (fin .bracket) c u) (after-S4 u) (λ x. refl)
 
-  follows-on : (rule : Rule) (c : Float) (u : Bracket) → went s fin (followBy gamma (fin .bracket) c u rule) ≡ seen (afterTrial s fin rule c u)
+  follows-on : (rule : Rule) (c : Float) (u : Bracket)
+      → went s fin (followBy gamma (fin .bracket) c u rule) ≡ seen (afterTrial s fin rule c u)
   unfolding followBy afterTrial
   follows-on ByS1 c u = after-S1 c u
   follows-on ByS4 c u = after-S4 u
@@ -235,8 +248,11 @@ module _ (s : Setup) (h : s .options .limit < 4294967296) (fin : Finished) where
     goes-on = afterTrial s fin (t .rule) (t .x)
 
     -- U3 while n answers may come
-    narrows : (n : ℕ) (came : Came) → went s fin (onwardOf gamma (fin .bracket) t n came) ≡ seen (U3 s (keeping (lastOf fin)) (lastOf fin) n came goes-on)
-    unfolding onwardOf wentOf probeOf testedOf madeBy U3 between meaning onAnswer onAsked keptOf stepOf stepAsked keptReport denote seen onceTold shown
+    narrows : (n : ℕ) (came : Came)
+        → went s fin (onwardOf gamma (fin .bracket) t n came)
+        ≡ seen (U3 s (keeping (lastOf fin)) (lastOf fin) n came goes-on)
+    unfolding onwardOf wentOf probeOf testedOf madeBy U3 between meaning onAnswer onAsked keptOf stepOf stepAsked
+        keptReport denote seen onceTold shown
     narrows zero (To u) = follows-on (t .rule) (t .x) u
     narrows zero (On a k') = refl
     narrows (suc n) (To u) = follows-on (t .rule) (t .x) u
@@ -244,36 +260,43 @@ module _ (s : Setup) (h : s .options .limit < 4294967296) (fin : Finished) where
         let x = middleOf (s .options .params .theta) a k' in
         let e : suc n - 1 ≡ n = omega arith in
         let z : eqb (suc n) 0 ≡ false = ne-eqb (suc n) 0 (λ (p : suc n ≡ 0). suc-ne-zero n p) in
-        rw (e, z) (picks (put s fin) (finite x) _ _ _ _ (picks (put s fin) (a .x <ᶠ x && x <ᶠ k') _ _ _ _ refl refl) refl)
+        rw (e, z)
+        (picks (put s fin) (finite x) _ _ _ _ (picks (put s fin) (a .x <ᶠ x && x <ᶠ k') _ _ _ _ refl refl) refl)
 
   -- an answer to a trial, and to U3's step
   runs : isNan (s .level) ≡ false → (t : Trial) (asked : Asked) (f g : Float) → finite f ≡ true → finite g ≡ true
       → denote s (runningOf s fin t asked f g) ≡ seen (onAsked s fin t asked f g)
   unfolding onAsked comesOf leftOf updating
-  runs real t (Update w) f g ff fg = rw (decides (s .level) w (point (t .x) f g) real ff fg) (narrows t (s .options .budget) _)
+  runs real t (Update w) f g ff fg =
+      rw (decides (s .level) w (point (t .x) f g) real ff fg) (narrows t (s .options .budget) _)
   runs real t (Between e) f g ff fg = narrows t (e .left) _
 
 module _ (s : Setup) (h : s .options .limit < 4294967296) (real : isNan (s .level) ≡ false) where
-  starts-rounds : (w : Bracket) (c : Point) → denote s (settledOf s w c (iterations 0)) ≡ seen (rounds s (s .options .limit) w c 0)
+  starts-rounds : (w : Bracket) (c : Point)
+      → denote s (settledOf s w c (iterations 0)) ≡ seen (rounds s (s .options .limit) w c 0)
   starts-rounds w c = let e : s .options .limit - 0 ≡ s .options .limit = omega arith in rw e at (settles s h w c 0)
 
   -- every finite answer
-  reacts : (waiting : Waiting) (f g : Float) → finite f ≡ true → finite g ≡ true → denote s (reactOf s waiting f g) ≡ seen (onAnswer s waiting f g)
+  reacts : (waiting : Waiting) (f g : Float) → finite f ≡ true → finite g ≡ true
+      → denote s (reactOf s waiting f g) ≡ seen (onAnswer s waiting f g)
   unfolding reactOf onAnswer
   reacts Low f g ff fg = unfold askHigh keptOf stepOf keptReport denote seen onceTold shown meaning in refl
   reacts (High a) f g ff fg = unfold askStart keptOf stepOf keptReport denote seen onceTold shown meaning in refl
   reacts (Start w) f g ff fg = starts-rounds w (point (s .options .params .start) f g)
   reacts (Running fin t asked) f g ff fg = runs s h fin real t asked f g ff fg
 
-  answered : (n : Evaluations) (waiting : Waiting) (f g : Float) → denoteStep (takenOf s n waiting f g) ≡ seen (respond (meaning s (Open waiting)) f g)
+  answered : (n : Evaluations) (waiting : Waiting) (f g : Float)
+      → denoteStep (takenOf s n waiting f g) ≡ seen (respond (meaning s (Open waiting)) f g)
   unfolding takenOf respond denote denoteStep seen onceTold shown meaning
   answered n waiting f g =
       picks-by denoteStep (answerFinite f g) _ _ _ _
       (λ e. reacts waiting f g (and-first (finite f) (finite g) e) (and-second (finite f) (finite g) e)) (λ e. refl)
 
 -- every answer to every state
-module _ (s : Search) (h : s .setup .options .limit < 4294967296) (real : isNan (s .setup .level) ≡ false) (f g : Float) where
-  answers-by : (stage : Stage) → s .stage ≡ stage → denoteStep (answerBy s f g stage) ≡ seen (respond (meaning (s .setup) stage) f g)
+module _ (s : Search) (h : s .setup .options .limit < 4294967296) (real : isNan (s .setup .level) ≡ false)
+    (f g : Float) where
+  answers-by : (stage : Stage) → s .stage ≡ stage
+      → denoteStep (answerBy s f g stage) ≡ seen (respond (meaning (s .setup) stage) f g)
   unfolding answerBy
   answers-by (Open waiting) e = answered (s .setup) h real (s .evaluations) waiting f g
   answers-by (Over kept) e = unfold denoteStep seen respond onceTold shown meaning in rw e

@@ -1,5 +1,5 @@
--- 01, "How tight the contracts are": any two results that the contract of `start` or of `answer` allows are identical. What is told of a start tells
--- it whole; an answer's next state and outcome are said themselves. Assumes nothing.
+-- 01, "How tight the contracts are": any two results that the contract of `start` or of `answer` allows are identical.
+-- What is told of a start tells it whole; an answer's next state and outcome are said themselves. Assumes nothing.
 use mathlib.Core.Path.{_≡_, refl, sym, ap, _∙_}
 use lib.Ieee.{Float}
 use Rattle.numbers.specs.Results.{Result, value, refused}

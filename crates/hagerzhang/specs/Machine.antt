@@ -1,5 +1,6 @@
--- The machine's own bookkeeping, which the contracts cite: nobody needs this to check 01. specs/Meaning.antt says what a state stands for in 01's
--- rules, proofs/Bridge.antt that every step is the rules' step, and demands/proofs/Demand2.antt the same for any list of answers.
+-- The machine's own bookkeeping, which the contracts cite: nobody needs this to check 01. specs/Meaning.antt says what
+-- a state stands for in 01's rules, proofs/Bridge.antt that every step is the rules' step, and
+-- demands/proofs/Demand2.antt the same for any list of answers.
 use Prim.Native.Nat.{ℕ, _-_}
 use mathlib.Core.Path.{_≡_}
 use mathlib.Core.Bool.{cond, _&&_}
@@ -14,7 +15,13 @@ use Rattle.outcomes.specs.declared.Iterations.{Iterations}
 use Rattle.outcomes.specs.declared.Outcome.{Outcome}
 use Rattle.outcomes.specs.declared.Outcome.the-variants.{Ask, Stop, Limit, Refused}
 use Rattle.outcomes.specs.declared.Refusal.{Refusal}
-use Rattle.outcomes.specs.declared.Refusal.the-variants.{SuppliedNotFinite, StepNotFinite, BudgetSpent, StepNotBetween, AlreadyOver}
+use Rattle.outcomes.specs.declared.Refusal.the-variants.{
+  SuppliedNotFinite,
+  StepNotFinite,
+  BudgetSpent,
+  StepNotBetween,
+  AlreadyOver,
+}
 use Rattle.outcomes.specs.Counters.{counted, evaluations, iterations}
 use Rattle.rules.specs.declared.Point.{Point}
 use Rattle.rules.specs.declared.Bracket.{Bracket}
@@ -156,7 +163,8 @@ wentOf s last (Close u) = settledOf s u (last .start) (iterations (counted (last
 -- what an answer in an iteration leads to
 abbrev pub thenOf : Setup → Finished → Trial → Asked → Float → Float → Then
 thenOf s last t asked f g =
-    onwardOf (s .options .params .gamma) (last .bracket) t (leftOf (s .options .budget) asked) (comesOf (s .level) t asked f g)
+    onwardOf (s .options .params .gamma) (last .bracket) t (leftOf (s .options .budget) asked)
+    (comesOf (s .level) t asked f g)
 
 abbrev pub runningOf : Setup → Finished → Trial → Asked → Float → Float → Next
 runningOf s last t asked f g = wentOf s last (thenOf s last t asked f g)

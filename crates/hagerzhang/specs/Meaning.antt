@@ -1,4 +1,5 @@
--- What a state stands for in 01's rules: the search that is left. And what `start` and `answer` promise in the rules' terms.
+-- What a state stands for in 01's rules: the search that is left. And what `start` and `answer` promise in
+-- the rules' terms.
 use Prim.Native.Nat.{ℕ, _-_}
 use mathlib.Core.Path.{_≡_}
 use mathlib.Core.Bool.{Bool, true, false}
@@ -92,9 +93,11 @@ module _ (s : Setup) (fin : Finished) where
 
   -- what a finite answer leads to: to the trial itself, or to U3's step
   unfoldable pub onAsked : Trial → Asked → Float → Float → Rest Report
-  onAsked t (Update w) f g = update s (keeping (lastOf fin)) (lastOf fin) w (point (t .x) f g) (afterTrial (t .rule) (t .x))
+  onAsked t (Update w) f g =
+      update s (keeping (lastOf fin)) (lastOf fin) w (point (t .x) f g) (afterTrial (t .rule) (t .x))
   onAsked t (Between e) f g =
-      U3 s (keeping (lastOf fin)) (lastOf fin) (e .left) (narrowedOf (s .level) (e .h) (e .k) (point (e .d) f g)) (afterTrial (t .rule) (t .x))
+      U3 s (keeping (lastOf fin)) (lastOf fin) (e .left) (narrowedOf (s .level) (e .h) (e .k) (point (e .d) f g))
+      (afterTrial (t .rule) (t .x))
 
 unfoldable pub onAnswer : Setup → Waiting → Float → Float → Rest Report
 onAnswer s Low f g = askHigh s (point (s .options .params .min) f g)

@@ -1,5 +1,6 @@
-// Hager-Zhang as a machine. The search hands out a step and is given cost and slope there. An answer comes to a bracket or goes on in U3 (Came), something
-// follows in the iteration (Then), the search moves (Move), and one place writes the next state.
+// Hager-Zhang as a machine. The search hands out a step and is given cost and slope there. An answer comes to a bracket
+// or goes on in U3 (Came), something follows in the iteration (Then), the search moves (Move), and one place writes the
+// next state.
 
 use outcomes::Evaluations;
 use outcomes::Iterations;
@@ -16,7 +17,21 @@ ghost use lib.Ieee.{isNan};
 ghost use Rattle.outcomes.specs.Asking.{reported, awaits};
 ghost use Rattle.outcomes.specs.Counters.{iterations};
 ghost use Rattle.rules.specs.Rules.{iterationsIn};
-ghost use Rattle.hagerzhang.specs.Machine.{fresh, StartSaid, AnswerSaid, asking, ending, stepTo, reactOf, keptOf, keptIn, stepAsked, stepOf, dueIn, takenOf};
+ghost use Rattle.hagerzhang.specs.Machine.{
+  fresh,
+  StartSaid,
+  AnswerSaid,
+  asking,
+  ending,
+  stepTo,
+  reactOf,
+  keptOf,
+  keptIn,
+  stepAsked,
+  stepOf,
+  dueIn,
+  takenOf,
+};
 ghost use Rattle.hagerzhang.specs.Meaning.{keptReport, dueTold, meant, Starts, Follows};
 
 mod iteration; // the way of an answer in an iteration, up to a move or its end
@@ -199,7 +214,8 @@ fn react(s: Setup, waiting: Waiting, f: f64, g: f64) -> Next
 
 // ---- what a search holds
 
-// Bracket, best and iterations of the last finished iteration, or of the start; none yet during the first three answers.
+// Bracket, best and iterations of the last finished iteration, or of the start; none yet during the first three
+// answers.
 pub fn held(s: Search) -> Kept
     ensures exact { λ r. ⌜ r ≡ keptIn s ⌝ }
     ensures rules { λ r. ⌜ keptReport r ≡ reported (meant s) ⌝ }

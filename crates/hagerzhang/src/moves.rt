@@ -19,7 +19,16 @@ use rules::Judged;
 use rules::Point;
 use rules::Setup;
 ghost use mathlib.Core.Path.{_≡_};
-ghost use Rattle.hagerzhang.specs.Machine.{tryAt, settledOf, outlookOf, madeOf, testedOf, attemptOf, probeOf, refusedBy};
+ghost use Rattle.hagerzhang.specs.Machine.{
+  tryAt,
+  settledOf,
+  outlookOf,
+  madeOf,
+  testedOf,
+  attemptOf,
+  probeOf,
+  refusedBy,
+};
 
 // (3) The start or an iteration is finished: L3, best, and what is due then.
 pub(crate) fn settled(s: Setup, bracket: Bracket, start: Point, iterations: Iterations) -> Next

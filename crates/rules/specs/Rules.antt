@@ -1,7 +1,9 @@
--- 01, "Hager-Zhang rules", line by line: each rule once, as a decision; then the flow over them as a run of questions and answers.
--- A point is (x, f, g): step, cost and slope. A bracket is (a, b). L is the setup's level. The types are declared in src/lib.rt, with their cases: what an answer comes to
--- is `To` a bracket, or `On` in U3 with its ends h and k; a further trial is `At` a step, or there is `Nothing`; a verdict `Holds`, or it `Fails`.
--- The marked sums M1 to M12 are proved of this text (proofs/MarkedSums.antt). specs/Iterations.antt has the words for what is proved of it along any answers.
+-- 01, "Hager-Zhang rules", line by line: each rule once, as a decision; then the flow over them as a run of questions
+-- and answers. A point is (x, f, g): step, cost and slope. A bracket is (a, b). L is the setup's level. The types are
+-- declared in src/lib.rt, with their cases: what an answer comes to is `To` a bracket, or `On` in U3 with its ends h
+-- and k; a further trial is `At` a step, or there is `Nothing`; a verdict `Holds`, or it `Fails`. The marked sums M1 to
+-- M12 are proved of this text (proofs/MarkedSums.antt). specs/Iterations.antt has the words for what is proved of it
+-- along any answers.
 use Prim.Native.Nat.{ℕ, zero, suc, _+_}
 use mathlib.Core.Bool.{Bool, cond, _&&_, _||_}
 use mathlib.Core.Option.{Option, some, none}
@@ -9,7 +11,16 @@ use lib.Ieee.{Float, binary64, ofBits}
 use lib.Ieee.Scale.{finite}
 use Rattle.floats.specs.Arithmetic.{_⊕_, _⊖_, _⊗_, _⊘_, _<ᶠ_, _≤ᶠ_, _>ᶠ_, _≥ᶠ_, 0ᶠ, 1ᶠ, 2ᶠ}
 use Rattle.numbers.specs.Numbers.{absOf}
-use Rattle.outcomes.specs.Outcomes.{verdictWord, stop, limit, Why, stepNotFinite, budgetSpent, stepNotBetween, unreachable}
+use Rattle.outcomes.specs.Outcomes.{
+  verdictWord,
+  stop,
+  limit,
+  Why,
+  stepNotFinite,
+  budgetSpent,
+  stepNotBetween,
+  unreachable,
+}
 use Rattle.outcomes.specs.Asking.{Run, end, Search, over, keeping, question}
 use Rattle.outcomes.specs.declared.Verdict.the-variants.{Wolfe, Approximate}
 use Rattle.rules.specs.declared.Point.{Point}
@@ -38,7 +49,8 @@ answerFinite f g = finite f && finite g
 -- ---- "Update of (a, b) with c"
 
 -- U0: "c.x <= a.x or c.x >= b.x: unchanged". U1: "c.g >= 0 (minus zero too): (a, c)". U2: "c.g < 0, c.f <= L: (c, b)".
--- U3: "c.g < 0, c.f > L: ends h = a, k = c.x", and goes on. Where no guard holds the Rust ends with its error "unreachable point": `none`.
+-- U3: "c.g < 0, c.f > L: ends h = a, k = c.x", and goes on. Where no guard holds the Rust ends with its error
+-- "unreachable point": `none`.
 unfoldable pub updateOf : Float → Bracket → Point → Option Came
 updateOf L w c =
     cond (c .x ≤ᶠ w .a .x || c .x ≥ᶠ w .b .x) (some (To w))
@@ -99,8 +111,8 @@ lowest p q r = p .f ≤ᶠ q .f && p .f ≤ᶠ r .f
 unfoldable pub bestOver : Point → Point → Point → Point → Point
 bestOver old a b c = cond (lowest c a b) c (cond (lowest b a c) b (cond (lowest a b c) a old))
 
--- 01 says nothing for the case that no test holds. With finite costs one always does (`best-is-one`, proofs/Best.antt), and every reported
--- point is finite, so the a in that place is never seen.
+-- 01 says nothing for the case that no test holds. With finite costs one always does (`best-is-one`, proofs/Best.antt),
+-- and every reported point is finite, so the a in that place is never seen.
 abbrev pub bestOf : Point → Point → Point → Point
 bestOf a b c = bestOver a a b c
 
@@ -114,13 +126,15 @@ wolfeHolds s p =
 -- ""approximate" if (2*delta - 1)*s0 >= best.g, best.g >= sigma*s0 and best.f <= L"
 abbrev pub approximateHolds : Setup → Point → Bool
 approximateHolds s p =
-    ((2ᶠ ⊗ s .options .params .delta ⊖ 1ᶠ) ⊗ s .s0 ≥ᶠ p .g) && (p .g ≥ᶠ s .options .params .sigma ⊗ s .s0) && (p .f ≤ᶠ s .level)
+    ((2ᶠ ⊗ s .options .params .delta ⊖ 1ᶠ) ⊗ s .s0 ≥ᶠ p .g) && (p .g ≥ᶠ s .options .params .sigma ⊗ s .s0)
+    && (p .f ≤ᶠ s .level)
 
 unfoldable pub judgedOf : Setup → Point → Judged
 judgedOf s p = cond (wolfeHolds s p) (Holds Wolfe) (cond (approximateHolds s p) (Holds Approximate) Fails)
 
--- ---- the flow. `kept`, of any type K, is what is reported meanwhile; a refusal comes to `refuse` of its reason; `then` goes on with what was
--- reached. From outside, these rules take s, refuse and kept first: `iteration s refuse kept w then`.
+-- ---- the flow. `kept`, of any type K, is what is reported meanwhile; a refusal comes to `refuse` of its reason;
+-- `then` goes on with what was reached. From outside, these rules take s, refuse and kept first:
+-- `iteration s refuse kept w then`.
 
 module _ {K R : Type 0} (s : Setup) (refuse : Why → R) (kept : K) where
   abbrev pub asking : Float → (Point → Run K R) → Run K R
@@ -137,8 +151,8 @@ module _ {K R : Type 0} (s : Setup) (refuse : Why → R) (kept : K) where
       (cond (h .x <ᶠ x && x <ᶠ k) (asking x then) (end (refuse (stepNotBetween (h .x) k x))))
       (end (refuse (stepNotFinite x)))
 
-  -- U3 while n answers may come; where U0 to U2, or the last answer, came `To` a bracket, there is nothing to ask. 6: "one U3 run has had B answers and the last did
-  -- not end it", before 5 and 7
+  -- U3 while n answers may come; where U0 to U2, or the last answer, came `To` a bracket, there is nothing to ask. 6:
+  -- "one U3 run has had B answers and the last did not end it", before 5 and 7
   unfoldable pub U3 : ℕ → Came → (Bracket → Run K R) → Run K R
   U3 zero (To u) then = then u
   U3 zero (On h k) then = end (refuse (budgetSpent (h .x) k))
@@ -174,14 +188,16 @@ module _ {K R : Type 0} (s : Setup) (refuse : Why → R) (kept : K) where
       update w c λ u.
       afterS1 w (c .x) u then
 
--- ---- what is reported: "During the first three answers there is no bracket and no best"; then those of the last finished iteration, or the start
+-- ---- what is reported: "During the first three answers there is no bracket and no best"; then those of the last
+-- finished iteration, or the start
 
 pub record Last : Type 0 where
   pub bracket : Bracket
   pub best : Point
   pub iterations : ℕ
 
--- with `noneYet` no iteration is finished either. Evaluations are not reported here: they are counted over the whole run, by `accepted` of outcomes/specs/Asking.antt
+-- with `noneYet` no iteration is finished either. Evaluations are not reported here: they are counted over the whole
+-- run, by `accepted` of outcomes/specs/Asking.antt
 pub data Report : Type 0 where
   noneYet : Report
   last : Last → Report
@@ -195,7 +211,8 @@ unfoldable pub decided : Report → Float → Search Report → Judged → Searc
 decided kept x go (Holds v) = over kept (stop (verdictWord v) x)
 decided kept x go Fails = go
 
--- "This c is always the start step, never a later trial": `start` is the point there, w the bracket, i the number of finished iterations
+-- "This c is always the start step, never a later trial": `start` is the point there, w the bracket, i the number of
+-- finished iterations
 module _ (s : Setup) where
   abbrev pub reportOf : Bracket → Point → ℕ → Report
   reportOf w start i = last (record { bracket = w; best = bestOf (w .a) (w .b) start; iterations = i })
@@ -206,7 +223,8 @@ module _ (s : Setup) where
       let best = bestOf (w .a) (w .b) start in
       decided (reportOf w start i) (best .x) go (judgedOf s best)
 
-  -- "After an iteration the verdict is tested first, then the limit; only then is the next step worked out." n iterations may still be begun.
+  -- "After an iteration the verdict is tested first, then the limit; only then is the next step worked out." n
+  -- iterations may still be begun.
   unfoldable pub rounds : ℕ → Bracket → Point → ℕ → Search Report
   rounds zero w start i =
       let best = bestOf (w .a) (w .b) start in
@@ -215,8 +233,9 @@ module _ (s : Setup) where
       let kept = reportOf w start i in
       verdict w start i (iteration s (keeping kept) kept w λ v. rounds n v start (i + 1))
 
-  -- "Start: ask a = min, b = max, c = start step, in that order." Written from its end: `search` asks min and goes on with `askHigh`, that asks max and goes on with
-  -- `askStart`, and that asks the start step and goes on with the verdict on (a, b). Nothing is reported yet.
+  -- "Start: ask a = min, b = max, c = start step, in that order." Written from its end: `search` asks min and goes on
+  -- with `askHigh`, that asks max and goes on with `askStart`, and that asks the start step and goes on with the
+  -- verdict on (a, b). Nothing is reported yet.
   unfoldable pub askStart : Bracket → Search Report
   askStart w = asking s (keeping noneYet) noneYet (s .options .params .start) λ c. rounds (s .options .limit) w c 0
 

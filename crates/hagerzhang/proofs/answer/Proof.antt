@@ -14,7 +14,8 @@ limit-fits c = omega arith
 returns : tie.Need-returns
 unfolding answerBy
 returns c =
-    promised _ _ _ (limit-fits (c .before .before .before .before)) _ (rw (c .before .before .stage .given .1) (c .taken .ensures))
+    promised _ _ _ (limit-fits (c .before .before .before .before)) _
+    (rw (c .before .before .stage .given .1) (c .taken .ensures))
 
 returns-2 : tie.Need-returns-2
 unfolding answerBy

@@ -10,7 +10,9 @@ use Rattle.hagerzhang.proofs.awaited.Tie as tie
 
 returns : tie.Need-returns
 unfolding dueAt
-returns c = awaited-promised (c .before .before .before .before .args .s) _ (rw (c .before .before .stage .given .1) (ap Step (c .step-due .ensures)))
+returns c =
+    awaited-promised (c .before .before .before .before .args .s) _
+    (rw (c .before .before .stage .given .1) (ap Step (c .step-due .ensures)))
 
 returns-2 : tie.Need-returns-2
 unfolding dueAt

@@ -8,7 +8,9 @@ use Rattle.hagerzhang.proofs.held.Tie as tie
 
 returns : tie.Need-returns
 unfolding keptAt
-returns c = held-promised (c .before .before .before .before .args .s) _ (rw (c .before .before .stage .given .1) (c .keeps .ensures))
+returns c =
+    held-promised (c .before .before .before .before .args .s) _
+    (rw (c .before .before .stage .given .1) (c .keeps .ensures))
 
 returns-2 : tie.Need-returns-2
 unfolding keptAt

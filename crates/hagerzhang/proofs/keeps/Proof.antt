@@ -23,4 +23,5 @@ returns-4 c = search (tests, c .before .waiting .given .1)
 
 pub keeps-spec : {M : Type 1} → statement M
 keeps-spec =
-    tie.close (tie.spec (λ c. search needs) (λ c. search needs) (λ c. search needs) (λ c. search needs) returns returns-2 returns-3 returns-4)
+    tie.close (tie.spec (λ c. search needs) (λ c. search needs) (λ c. search needs) (λ c. search needs) returns
+    returns-2 returns-3 returns-4)

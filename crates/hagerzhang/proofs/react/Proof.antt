@@ -21,4 +21,6 @@ unfolding reactOf
 returns-4 c = rw (c .before .before .waiting3 .given .1) (c .running .ensures)
 
 pub react-spec : {M : Type 1} → statement M
-react-spec = tie.close (tie.spec (λ c. search needs) (λ c κs. tt) (λ c. search needs) (λ c κs. tt) (λ c. search needs) (λ c κs. tt) (λ c. search needs) (λ c κs. tt) returns returns-2 returns-3 returns-4)
+react-spec =
+    tie.close (tie.spec (λ c. search needs) (λ c κs. tt) (λ c. search needs) (λ c κs. tt) (λ c. search needs)
+    (λ c κs. tt) (λ c. search needs) (λ c κs. tt) returns returns-2 returns-3 returns-4)

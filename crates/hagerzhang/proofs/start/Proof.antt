@@ -8,13 +8,40 @@ returns : tie.Need-returns
 returns c = start-promised _ _ _ _ (rw (not-by-call _ _ (c .before .supplied-finite .ensures) (c .if1 .taken)))
 
 returns-2 : tie.Need-returns-2
-returns-2 c = start-promised _ _ _ _ (rw (not-not-by-call _ _ (c .before .before .before .supplied-finite .ensures) (c .before .before .if1 .left), not-by-call _ _ (c .before .in-ranges .ensures) (c .if2 .taken)))
+returns-2 c =
+    start-promised _ _ _ _
+    (rw (
+      not-not-by-call _ _ (c .before .before .before .supplied-finite .ensures) (c .before .before .if1 .left),
+      not-by-call _ _ (c .before .in-ranges .ensures) (c .if2 .taken),
+    ))
 
 returns-3 : tie.Need-returns-3
-returns-3 c = start-promised _ _ _ _ (rw (not-not-by-call _ _ (c .before .before .before .before .before .before .before .supplied-finite .ensures) (c .before .before .before .before .before .before .if1 .left), not-not-by-call _ _ (c .before .before .before .before .before .in-ranges .ensures) (c .before .before .before .before .if2 .left), ← c .before .before .before .abs .ensures, not-by-call _ _ (c .before .both-finite .ensures) (c .if3 .taken)))
+returns-3 c =
+    start-promised _ _ _ _
+    (rw (
+      not-not-by-call _ _ (c .before .before .before .before .before .before .before .supplied-finite .ensures)
+          (c .before .before .before .before .before .before .if1 .left),
+      not-not-by-call _ _ (c .before .before .before .before .before .in-ranges .ensures)
+          (c .before .before .before .before .if2 .left),
+      ← c .before .before .before .abs .ensures,
+      not-by-call _ _ (c .before .both-finite .ensures) (c .if3 .taken),
+    ))
 
 returns-4 : tie.Need-returns-4
-returns-4 c = start-promised _ _ _ _ (rw (not-not-by-call _ _ (c .before .before .before .before .before .before .before .before .supplied-finite .ensures) (c .before .before .before .before .before .before .before .if1 .left), not-not-by-call _ _ (c .before .before .before .before .before .before .in-ranges .ensures) (c .before .before .before .before .before .if2 .left), ← c .before .before .before .before .abs .ensures, not-not-by-call _ _ (c .before .before .both-finite .ensures) (c .before .if3 .left), c .fresh-search .ensures))
+returns-4 c =
+    start-promised _ _ _ _
+    (rw (
+      not-not-by-call _ _
+          (c .before .before .before .before .before .before .before .before .supplied-finite .ensures)
+          (c .before .before .before .before .before .before .before .if1 .left),
+      not-not-by-call _ _ (c .before .before .before .before .before .before .in-ranges .ensures)
+          (c .before .before .before .before .before .if2 .left),
+      ← c .before .before .before .before .abs .ensures,
+      not-not-by-call _ _ (c .before .before .both-finite .ensures) (c .before .if3 .left),
+      c .fresh-search .ensures,
+    ))
 
 pub start-spec : {M : Type 1} → statement M
-start-spec = tie.close (tie.spec (λ c κs. tt) returns (λ c κs. tt) returns-2 (λ c κs. tt) (λ c κs. tt) returns-3 (λ c κs. tt) returns-4)
+start-spec =
+    tie.close (tie.spec (λ c κs. tt) returns (λ c κs. tt) returns-2 (λ c κs. tt) (λ c κs. tt) returns-3 (λ c κs. tt)
+    returns-4)

@@ -22,5 +22,6 @@ returns-4 c = rw (c .before .before .waiting .given .1) (c .step-asked .ensures)
 
 pub step-due-spec : {M : Type 1} → statement M
 step-due-spec =
-    tie.close (tie.spec (λ c. search needs) (λ c. search needs) (λ c. search needs) (λ c. search needs) (λ c κs. tt) returns returns-2
+    tie.close (tie.spec (λ c. search needs) (λ c. search needs) (λ c. search needs) (λ c. search needs) (λ c κs. tt)
+    returns returns-2
     returns-3 returns-4)

@@ -7,11 +7,14 @@ use Rattle.hagerzhang.proofs.iteration.after_s1.Tie as tie
 
 returns : tie.Need-returns
 unfolding triedBy
-returns c = rw (sym (c .before .before .before .before .s4 .ensures) ∙ c .before .before .x .given .1, c .tries .ensures)
+returns c =
+    rw (sym (c .before .before .before .before .s4 .ensures) ∙ c .before .before .x .given .1, c .tries .ensures)
 
 returns-2 : tie.Need-returns-2
 unfolding triedBy
 returns-2 c = rw (sym (c .before .before .before .s4 .ensures) ∙ c .before .enum-told .given .1) (c .after-s4 .ensures)
 
 pub after-s1-spec : {M : Type 1} → statement M
-after-s1-spec = tie.close (tie.spec (λ c κs. tt) (λ c. search needs) (λ c κs. tt) (λ c. search needs) (λ c κs. tt) returns returns-2)
+after-s1-spec =
+    tie.close (tie.spec (λ c κs. tt) (λ c. search needs) (λ c κs. tt) (λ c. search needs) (λ c κs. tt) returns
+    returns-2)

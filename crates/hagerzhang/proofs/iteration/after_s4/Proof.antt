@@ -7,7 +7,8 @@ use Rattle.hagerzhang.proofs.iteration.after_s4.Tie as tie
 
 returns : tie.Need-returns
 unfolding triedBy
-returns c = rw (sym (c .before .before .before .before .l2 .ensures) ∙ c .before .before .x .given .1, c .tries .ensures)
+returns c =
+    rw (sym (c .before .before .before .before .l2 .ensures) ∙ c .before .before .x .given .1, c .tries .ensures)
 
 returns-2 : tie.Need-returns-2
 unfolding triedBy

@@ -14,4 +14,6 @@ unfolding comesOf
 returns-2 c = search (tests, c .narrowed .ensures, c .before .before .asked2 .given .1)
 
 pub comes-spec : {M : Type 1} → statement M
-comes-spec = tie.close (tie.spec (λ c. search needs) (λ c κs. search needs) (λ c. search needs) (λ c κs. search needs) returns returns-2)
+comes-spec =
+    tie.close (tie.spec (λ c. search needs) (λ c κs. search needs) (λ c. search needs) (λ c κs. search needs) returns
+    returns-2)

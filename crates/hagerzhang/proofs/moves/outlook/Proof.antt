@@ -8,7 +8,12 @@ use Rattle.hagerzhang.proofs.moves.outlook.Tie as tie
 
 returns : tie.Need-returns
 unfolding outlookBy
-returns c = rw (sym (c .before .before .before .before .before .judge .ensures) ∙ c .before .before .before .enum-told .given .1, le-leb _ _ (c .if1 .taken))
+returns c =
+    rw (
+      sym (c .before .before .before .before .before .judge .ensures)
+          ∙ c .before .before .before .enum-told .given .1,
+      le-leb _ _ (c .if1 .taken),
+    )
 
 returns-2 : tie.Need-returns-2
 unfolding outlookBy
@@ -16,7 +21,14 @@ returns-2 c = rw (sym (c .before .before .before .judge .ensures) ∙ c .before 
 
 returns-3 : tie.Need-returns-3
 unfolding outlookBy
-returns-3 c = rw (sym (c .before .before .before .before .before .before .before .judge .ensures) ∙ c .before .before .before .before .before .enum-told .given .1, lt-leb _ _ (c .before .before .if1 .left)) (c .tries .ensures ∙ rw (c .before .secant .ensures))
+returns-3 c =
+    rw (
+      sym (c .before .before .before .before .before .before .before .judge .ensures)
+          ∙ c .before .before .before .before .before .enum-told .given .1,
+      lt-leb _ _ (c .before .before .if1 .left),
+    ) (c .tries .ensures ∙ rw (c .before .secant .ensures))
 
 pub outlook-spec : {M : Type 1} → statement M
-outlook-spec = tie.close (tie.spec (λ c κs. tt) (λ c. search needs) (λ c. search needs) returns (λ c κs. tt) (λ c κs. tt) returns-2 returns-3)
+outlook-spec =
+    tie.close (tie.spec (λ c κs. tt) (λ c. search needs) (λ c. search needs) returns (λ c κs. tt) (λ c κs. tt) returns-2
+    returns-3)

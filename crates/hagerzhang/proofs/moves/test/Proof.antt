@@ -23,5 +23,6 @@ returns-4 c = search (tests, c .enum-told .given .1)
 
 pub test-spec : {M : Type 1} → statement M
 test-spec =
-    tie.close (tie.spec (λ c. search needs) (λ c κs. search needs) (λ c. search needs) (λ c κs. search needs) (λ c. search needs) (λ c. search needs)
+    tie.close (tie.spec (λ c. search needs) (λ c κs. search needs) (λ c. search needs) (λ c κs. search needs)
+    (λ c. search needs) (λ c. search needs)
     returns returns-2 returns-3 returns-4)
