@@ -20,7 +20,8 @@ use Rattle.demands.specs.Demand1.{Demand1}
 use Rattle.demands.proofs.Answered.{answered}
 use Rattle.demands.proofs.Refused.{refused-rightly}
 
-job-table : (bytes : List ℕ) (r : Opened) → BeginSaid bytes r → (fs : List Field) (j : Job) → Holds 0 fs bytes → meansOf fs ≡ value j
+job-table : (bytes : List ℕ) (r : Opened) → BeginSaid bytes r → (fs : List Field) (j : Job) → Holds 0 fs bytes
+    → meansOf fs ≡ value j
     → Table (refusedBy (openedTold r)) (jobRows j)
 unfolding inOrder
 job-table bytes r said fs j holds means = record {
@@ -32,7 +33,10 @@ pub demand1 : Demand1
 unfolding given inOrder
 demand1 = record {
   dot = λ a b r said. record { exactly = ap refusedBy said ∙ by-rows (dotRows a b) _; ordered = refl };
-  point = λ x0 alpha d held r now said. record { exactly = ap refusedBy (said .0) ∙ by-rows (pointRows x0 alpha d _) _; ordered = refl };
+  point = λ x0 alpha d held r now said. record {
+    exactly = ap refusedBy (said .0) ∙ by-rows (pointRows x0 alpha d _) _;
+    ordered = refl;
+  };
   buffer = buffers-untouched;
   condition = λ C r said. record { exactly = ap refusedBy said ∙ by-rows (conditionRows C) _; ordered = refl };
   curve = λ n r said. record { exactly = ap refusedBy said ∙ by-rows (curveRows n) _; ordered = refl };

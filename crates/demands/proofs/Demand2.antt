@@ -67,7 +67,10 @@ module _ (o : Options) (f0 s0 : Float) (ok : Passed (startRows o f0 s0)) where
     asks-max = by .tells ∙ ap (λ (q : Rest Report). shown (respond q f g)) (starts-whole s) ∙ second-step s f g fine
 
     leaves-max : shown (meant (r .search)) ≡ asks (o .params .max)
-    leaves-max = ap shown (by .leaves) ∙ ap (λ (q : Rest Report). shown (onceTold (respond q f g))) (starts-whole s) ∙ left-asks s f g fine
+    leaves-max =
+        ap shown (by .leaves)
+        ∙ ap (λ (q : Rest Report). shown (onceTold (respond q f g))) (starts-whole s)
+        ∙ left-asks s f g fine
 
     no-refusal : (n : ℕ) → refusalIn (told (r .outcome)) ≡ some n → ⊥
     no-refusal n e = Option·none-ne-some n (sym (ap refusalIn asks-max) ∙ e)

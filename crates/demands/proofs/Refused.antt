@@ -1,5 +1,5 @@
--- Every Hager-Zhang search that `start` gave ends for a reason that is true of its numbers; where U3 goes on it tells 6, 5, 7 or its
--- next step exactly when 01 says so; and every step that it asks is finite, in U3 strictly between its ends
+-- Every Hager-Zhang search that `start` gave ends for a reason that is true of its numbers; where U3 goes on it tells
+-- 6, 5, 7 or its next step exactly when 01 says so; and every step that it asks is finite, in U3 strictly between its ends
 -- (`refused-rightly`). From the rules (rules/proofs/Demand3.antt). Assumes nothing.
 use mathlib.Core.Path.{_≡_, refl, sym, ap, _∙_, subst}
 use mathlib.Core.Bool.{Bool, true, false, cond, not, _&&_, _||_, false≢true}
@@ -67,7 +67,8 @@ is-of-step six = refl
 is-of-step five = refl
 is-of-step seven = refl
 
-module _ (s : Setup) (p : Last) (asked : List Point) (h : Point) (k : Float) (in-U3 : standing s (p .bracket) asked ≡ some (On h k)) where
+module _ (s : Setup) (p : Last) (asked : List Point) (h : Point) (k : Float)
+    (in-U3 : standing s (p .bracket) asked ≡ some (On h k)) where
   abbrev d : Float
   d = middleOf (s .options .params .theta) h k
 
@@ -97,7 +98,8 @@ module _ (s : Setup) (p : Last) (asked : List Point) (h : Point) (k : Float) (in
       (rw (same-low h' k' (i .stands), same-high h' k' (i .stands)) at strictly) in
       rw (not-all (i .answered), fine, within) (ap asks same)
 
-tells-ended : (s : Setup) (p : Last) (asked : List Point) (h : Point) (k : Float) (e : Ending Why) → Ends s (last p) asked e
+tells-ended : (s : Setup) (p : Last) (asked : List Point) (h : Point) (k : Float) (e : Ending Why)
+    → Ends s (last p) asked e
     → standing s (p .bracket) asked ≡ some (On h k)
     → of-step (refusalIn (ends (numbered e))) ≡ true
     → ends (numbered e) ≡ toldInU3 s (had s (p .bracket) asked) h k
@@ -115,8 +117,10 @@ tells-ended s p asked h k e (not-between {h = h'} {k = k'} {x = x} i f outside) 
     let same = next-is s p asked h k in-U3 h' k' x i in
     let next = d s p asked h k in-U3 in
     let fine : finite next ≡ true = subst (λ (z : Float). finite z ≡ true) same f in
-    let ends-here = rw (same-low s p asked h k in-U3 h' k' (i .stands), same-high s p asked h k in-U3 h' k' (i .stands)) at outside in
-    let not-within : (h .x <ᶠ next && next <ᶠ k) ≡ false = subst (λ (z : Float). (h .x <ᶠ z && z <ᶠ k) ≡ false) same ends-here in
+    let low = same-low s p asked h k in-U3 h' k' (i .stands) in
+    let high = same-high s p asked h k in-U3 h' k' (i .stands) in
+    let not-within : (h .x <ᶠ next && next <ᶠ k) ≡ false =
+    subst (λ (z : Float). (h .x <ᶠ z && z <ᶠ k) ≡ false) same (rw (low, high) at outside) in
     rw (not-all s p asked h k in-U3 (i .answered), fine, not-within)
 tells-ended s p asked h k e already in-U3 o = absurd (false≢true o)
 
@@ -128,7 +132,8 @@ module _ (o : Options) (f0 s0 : Float) (ok : Passed (startRows o f0 s0)) where
   abbrev asked-then : List Reply → Reply → List Point
   asked-then ys y = under-way [] (search s) (one-more ys y)
 
-  because : (ys : List Reply) (y : Reply) (e : Ending ℕ) (r : Rest Report) → respond (after (search s) ys) (y .0) (y .1) ≡ r
+  because : (ys : List Reply) (y : Reply) (e : Ending ℕ) (r : Rest Report)
+      → respond (after (search s) ys) (y .0) (y .1) ≡ r
       → shown r ≡ ends e → Reason s (reported r) (asked-then ys y) e
   unfolding shown reported
   because ys y e (ask k z then) is shows = absurd (asks-not-ends z e (sym shows))
@@ -154,7 +159,8 @@ module _ (o : Options) (f0 s0 : Float) (ok : Passed (startRows o f0 s0)) where
   goes-on-in ys y p h k (end o'') is e in-U3 o' =
       let reason : Ends s (o'' .keeps) (asked-then ys y) (o'' .by) =
       rules.ends o f0 s0 ok (one-more ys y) (o'' .keeps) (o'' .by) (after-one-more (search s) ys y ∙ is) in
-      tells-ended s p (asked-then ys y) h k (o'' .by) (subst (λ (l : Report). Ends s l (asked-then ys y) (o'' .by)) e reason) in-U3
+      tells-ended s p (asked-then ys y) h k (o'' .by)
+      (subst (λ (l : Report). Ends s l (asked-then ys y) (o'' .by)) e reason) in-U3
       (is-of-step o')
 
   of-fresh : Refused o f0 s0 (fresh s)
@@ -170,7 +176,8 @@ module _ (o : Options) (f0 s0 : Float) (ok : Passed (startRows o f0 s0)) where
         goes-on-in ys y p h k (respond (after (search s) ys) (y .0) (y .1)) refl (sym (report-next o f0 s0 ok ys y) ∙ e)
         (rw (asked-by o f0 s0 ok (one-more ys y)) at stands)
         (subst (λ (q : Told). OfTheStep (refusalIn q)) (told-at o f0 s0 ok ys y) step));
-    asks-finite = λ ys y x e. rules.asks-finite o f0 s0 ok (one-more ys y) x (shown-next ys y ∙ sym (told-at o f0 s0 ok ys y) ∙ e);
+    asks-finite = λ ys y x e.
+        rules.asks-finite o f0 s0 ok (one-more ys y) x (shown-next ys y ∙ sym (told-at o f0 s0 ok ys y) ∙ e);
     asks-rightly = λ ys y x e p h.
         rw (asked-by o f0 s0 ok (one-more ys y))
         (rules.asks o f0 s0 ok (one-more ys y) p x (sym (report-at o f0 s0 ok (one-more ys y)) ∙ h)

@@ -62,12 +62,41 @@ module _ (b : Backtracking) (f g : Float) (stage : Trying) (w : b .stage ≡ sta
       (madeOf s m now TriedOut (Refused StepNotFinite)))))
       (madeOf s (b .evaluations) (b .iterations) TriedOut (Refused SuppliedNotFinite)))
   unfolding inOrder
-  tries false h l x ea eh el ex = record { refused-by = record { exactly = rw (rows, ea); ordered = refl }; unchanged = not-over; over = λ e q. refl; keeps = λ n q. kept-if false ea; counts = rw (runs, ea) }
-  tries true true l x ea eh el ex = record { refused-by = record { exactly = rw (rows, ea, eh); ordered = refl }; unchanged = not-over; over = λ e q. refl; keeps = λ n q. absurd (Option·none-ne-some n q); counts = rw (runs, ea) }
-  tries true false true x ea eh el ex = record { refused-by = record { exactly = rw (rows, ea, eh, el); ordered = refl }; unchanged = not-over; over = λ e q. refl; keeps = λ n q. absurd (Option·none-ne-some n q); counts = rw (runs, ea) }
-  tries true false false true ea eh el ex =
-      record { refused-by = record { exactly = rw (rows, ea, eh, el, ex); ordered = refl }; unchanged = not-over; over = λ e q. absurd (asks-not-ends _ e (sym q)); keeps = λ n q. absurd (Option·none-ne-some n q); counts = rw (runs, ea) }
-  tries true false false false ea eh el ex = record { refused-by = record { exactly = rw (rows, ea, eh, el, ex); ordered = refl }; unchanged = not-over; over = λ e q. refl; keeps = λ n q. kept-if true ea; counts = rw (runs, ea) }
+  tries false h l x ea eh el ex = record {
+    refused-by = record { exactly = rw (rows, ea); ordered = refl };
+    unchanged = not-over;
+    over = λ e q. refl;
+    keeps = λ n q. kept-if false ea;
+    counts = rw (runs, ea);
+  }
+  tries true true l x ea eh el ex = record {
+    refused-by = record { exactly = rw (rows, ea, eh); ordered = refl };
+    unchanged = not-over;
+    over = λ e q. refl;
+    keeps = λ n q. absurd (Option·none-ne-some n q);
+    counts = rw (runs, ea);
+  }
+  tries true false true x ea eh el ex = record {
+    refused-by = record { exactly = rw (rows, ea, eh, el); ordered = refl };
+    unchanged = not-over;
+    over = λ e q. refl;
+    keeps = λ n q. absurd (Option·none-ne-some n q);
+    counts = rw (runs, ea);
+  }
+  tries true false false true ea eh el ex = record {
+    refused-by = record { exactly = rw (rows, ea, eh, el, ex); ordered = refl };
+    unchanged = not-over;
+    over = λ e q. absurd (asks-not-ends _ e (sym q));
+    keeps = λ n q. absurd (Option·none-ne-some n q);
+    counts = rw (runs, ea);
+  }
+  tries true false false false ea eh el ex = record {
+    refused-by = record { exactly = rw (rows, ea, eh, el, ex); ordered = refl };
+    unchanged = not-over;
+    over = λ e q. refl;
+    keeps = λ n q. kept-if true ea;
+    counts = rw (runs, ea);
+  }
 
   tried : Tried b f g (triedOf s (b .evaluations) (b .iterations) now t f g)
   unfolding triedOf
@@ -80,7 +109,13 @@ unfolding answerBy given inOrder
 by-stage b f g First w = tried b f g First w refl (b .iterations) (b .setup .alpha) refl
     (sym (either (λ (n : ℕ). n) (answerFinite (b .setup .condition) f g) _ _ (b .iterations .0) refl refl))
 by-stage b f g (Later t) w = tried b f g (Later t) w refl (iterations (counted (b .iterations .0))) t refl refl
-by-stage b f g TriedOut w = record { refused-by = record { exactly = rw w; ordered = refl }; unchanged = λ q. refl; over = λ e q. rw w; keeps = λ n q. rw w; counts = rw w }
+by-stage b f g TriedOut w = record {
+  refused-by = record { exactly = rw w; ordered = refl };
+  unchanged = λ q. refl;
+  over = λ e q. rw w;
+  keeps = λ n q. rw w;
+  counts = rw w;
+}
 
 pub answered : (b : Backtracking) (f g : Float) (r : Step) → AnswerSaid b f g r → Tried b f g r
 answered b f g r e = rw e (by-stage b f g (b .stage) refl)

@@ -98,7 +98,8 @@ module _ (o : Options) (f0 s0 : Float) (t : Step) where
     pub ended : (ys : List Reply) (y : Reply) (e : Ending ℕ) → toldAt b ys y ≡ ends e
         → Reason s (report (reachedBy b (one-more ys y))) (askedBy b (one-more ys y)) e
     -- 6, 5 and 7 in U3, both ways and in this order: what is told where a finite answer leaves the search in U3
-    pub in-U3 : (ys : List Reply) (y : Reply) → isOver (reachedBy b ys .stage) ≡ false → answerFinite (y .0) (y .1) ≡ true
+    pub in-U3 : (ys : List Reply) (y : Reply) → isOver (reachedBy b ys .stage) ≡ false
+        → answerFinite (y .0) (y .1) ≡ true
         → (p : Last) (h : Point) (k : Float) → report (reachedBy b (one-more ys y)) ≡ last p
         → standing s (p .bracket) (askedBy b (one-more ys y)) ≡ some (On h k)
         → toldAt b ys y ≡ toldInU3 s (had s (p .bracket) (askedBy b (one-more ys y))) h k
@@ -107,7 +108,7 @@ module _ (o : Options) (f0 s0 : Float) (t : Step) where
     pub asks-rightly : (ys : List Reply) (y : Reply) (x : Float) → toldAt b ys y ≡ asks x
         → (p : Last) → report (reachedBy b (one-more ys y)) ≡ last p → Asks s p (askedBy b (one-more ys y)) x
 
--- ---- every function that can refuse, but backtracking's (specs/Backtracking.antt): for any result that its contract allows
+-- ---- every function that can refuse, but backtracking's (specs/Backtracking.antt): any result of its contract
 
 pub record Demand1 : Type 0 where
   -- 1, 2, 4, and "buffers untouched"

@@ -1,6 +1,7 @@
--- Demand 2: "For finite trials, answers and computed numbers, within our limits and without a U3 stall, steps, bracket, best
--- step and verdict equal the Rust's bit for bit. They are proved equal to rules U0-U3, S1-S4, L1-L3 and the conditions as
--- 01 writes them in computed floats." Of Hager-Zhang; outside those limits 01's rules refuse, and so does the search.
+-- Demand 2: "For finite trials, answers and computed numbers, within our limits and without a U3 stall, steps, bracket,
+-- best step and verdict equal the Rust's bit for bit. They are proved equal to rules U0-U3, S1-S4, L1-L3 and the
+-- conditions as 01 writes them in computed floats." Of Hager-Zhang; outside those limits 01's rules refuse, and so does
+-- the search.
 -- (Backtracking: specs/Backtracking.antt. Equal to the Rust's: run and compared, README.)
 use Prim.Native.Nat.{ℕ, _<_}
 use mathlib.Core.Path.{_≡_}

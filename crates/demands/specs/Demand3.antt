@@ -1,4 +1,5 @@
--- Demand 3: the bracket, the bounds and the counts, of every Hager-Zhang search that `start` gave and every list of answers.
+-- Demand 3: the bracket, the bounds and the counts, of every Hager-Zhang search that `start` gave and every list of
+-- answers.
 -- Its words stand in rules/specs/Iterations.antt. (Backtracking: specs/Backtracking.antt.)
 use Prim.Native.Nat.{ℕ, _+_, _*_, _≤_}
 use mathlib.Core.Path.{_≡_}
@@ -54,8 +55,8 @@ module _ (o : Options) (f0 s0 : Float) (t : Step) where
   high-end y = point (o .params .max) (y .0) (y .1)
 
   pub record Bounded : Type 0 where
-    -- "Let the answered starting ends have low slope < 0, low cost <= L .. and high slope >= 0. Then after each finished
-    -- iteration the bracket meets the same three, low step < high step": whatever bracket is held after any answers
+    -- "Let the answered starting ends have low slope < 0, low cost <= L .. and high slope >= 0. Then after each
+    -- finished iteration the bracket meets the same three, low step < high step": whatever bracket is held
     pub bracket-stays : (ya yb yc : Reply) (ys : List Reply) → Premise (s .level) (low-end ya) (high-end yb)
         → (p : Last) → report (reachedBy b (ya ∷ yb ∷ yc ∷ ys)) ≡ last p → Bracketed (s .level) (p .bracket)
     -- "and it lies within the former bracket": where one more answer counts one more iteration

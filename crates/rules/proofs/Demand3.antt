@@ -249,14 +249,17 @@ module _ (o : Options) (f0 s0 : Float) (ok : Passed (startRows o f0 s0)) where
       by-c false = refuses _
 
       by-b : (t : Bool)
-          → Q (respond (cond t (askStart s w) (over noneYet (refusal (answerNotFinite (yb .0) (yb .1))))) (yc .0) (yc .1))
+          → Q
+          (respond (cond t (askStart s w) (over noneYet (refusal (answerNotFinite (yb .0) (yb .1)))))
+          (yc .0) (yc .1))
       unfolding respond askStart
       by-b true = by-c (answerFinite (yc .0) (yc .1))
       by-b false = refuses alreadyOver
 
       by-a : (t : Bool)
           → Q (respond
-          (respond (cond t (askHigh s low-end) (over noneYet (refusal (answerNotFinite (ya .0) (ya .1))))) (yb .0) (yb .1)) (yc .0) (yc .1))
+          (respond (cond t (askHigh s low-end) (over noneYet (refusal (answerNotFinite (ya .0) (ya .1)))))
+          (yb .0) (yb .1)) (yc .0) (yc .1))
       unfolding respond askHigh
       by-a true = by-b (answerFinite (yb .0) (yb .1))
       by-a false = refuses alreadyOver
@@ -291,7 +294,8 @@ module _ (o : Options) (f0 s0 : Float) (ok : Passed (startRows o f0 s0)) where
       unfolding after reported
       bracket-stays ys p =
           either-begun
-          (λ r. (asked : List Point) → Stands s (Steps s) M T asked r → reported (after r ys) ≡ last p → Bracketed (s .level) (p .bracket))
+          (λ r. (asked : List Point) → Stands s (Steps s) M T asked r → reported (after r ys) ≡ last p
+          → Bracketed (s .level) (p .bracket))
           (λ asked a e.
           let begun : Holds (s .level) (reported on) = rw (rounds-report s (o .limit) w c 0) (holds starts-bracketed) in
           bracketed (reported (after on ys)) p (holds-along ys asked on a begun) e)

@@ -141,7 +141,8 @@ module _ (s : Setup) (fine : finite (s .level) ≡ true) (P : Last → List Poin
       → Here asked (asking s (keeping k) k x then)
   asking-arrives asked x then then' room why at go =
       goes-on {p = p}
-      {then = λ f g. cond (answerFinite f g) (then (point x f g)) (over k (refusal (answerNotFinite f g)))} room why (λ f g u. rw u)
+      {then = λ f g. cond (answerFinite f g) (then (point x f g)) (over k (refusal (answerNotFinite f g)))}
+      room why (λ f g u. rw u)
       (λ f g. if-so (Here (point x f g ∷ asked)) (answerFinite f g)
       (λ e. go f g (and-first (finite f) (finite g) e) (and-second (finite f) (finite g) e)
       (subst (λ (t : Bool). There (point x f g ∷ asked)
@@ -156,12 +157,11 @@ module _ (s : Setup) (fine : finite (s .level) ≡ true) (P : Last → List Poin
   unfolding trial
   trial-arrives asked u x then then' room stands at go =
       if-so (Here asked) (finite x)
-      (λ e.
-      let here = subst (λ (t : Bool). There asked (cond t (asking s inl k x then') (end (inl (stepNotFinite x))))) e at in
-      asking-arrives asked x then then' room (words.trial stands here e) here (go e))
-      (λ e.
-      let here = subst (λ (t : Bool). There asked (cond t (asking s inl k x then') (end (inl (stepNotFinite x))))) e at in
-      ended (words.trial-not-finite stands here e))
+      (λ e. asking-arrives asked x then then' room (words.trial stands (by-test e) e) (by-test e) (go e))
+      (λ e. ended (words.trial-not-finite stands (by-test e) e))
+    where
+      by-test : {t : Bool} → finite x ≡ t → There asked (cond t (asking s inl k x then') (end (inl (stepNotFinite x))))
+      by-test e = rw e at at
 
   U3-arrives : (m : ℕ) (asked : List Point) (came : Came) (then : Bracket → Search Report) (then' : Bracket → Alone)
       → length asked + m ≤ 3 + 3 * B → standing s w asked ≡ some came → had s w asked + m ≡ B

@@ -53,7 +53,12 @@ module _ (o : Options) (f0 s0 : Float) (ok : Passed (startRows o f0 s0)) where
   -- those in front of the bounds and the start step
   abbrev six : Bool
   six =
-      finite (p .delta) && finite (p .sigma) && finite (p .epsilon) && finite (p .theta) && finite (p .gamma) && finite (p .eta)
+      finite (p .delta)
+      && finite (p .sigma)
+      && finite (p .epsilon)
+      && finite (p .theta)
+      && finite (p .gamma)
+      && finite (p .eta)
 
   abbrev eight : Bool
   eight = six && finite (p .min) && finite (p .max)

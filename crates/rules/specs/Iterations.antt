@@ -161,8 +161,8 @@ pub record InU3 (s : Setup) (w : Bracket) (asked : List Point) (h : Point) (k d 
   pub answered : had s w asked < s .options .budget
   pub next : d ≡ middleOf (s .options .params .theta) h k
 
--- ---- why a step x is asked in an iteration that began with the report p and has asked these points: it is finite; 01's
--- iteration alone asks it there; and in U3 it is strictly between the ends
+-- ---- why a step x is asked in an iteration that began with the report p and has asked these points: it is finite;
+-- 01's iteration alone asks it there; and in U3 it is strictly between the ends
 
 pub data Asks (s : Setup) (p : Last) (asked : List Point) (x : Float) : Type 0 where
   trial : {u : Bracket} {then : Float → Float → Alone} → standing s (p .bracket) asked ≡ some (To u)
