@@ -1,5 +1,5 @@
--- What `updated` decides is 01's update, guard for guard, and never the Rust's "unreachable point": for an L that is no NaN and a point with finite cost
--- and slope. From the order of floats. Assumes nothing.
+-- What `updated` decides is 01's update, guard for guard, and never the Rust's "unreachable point": for an L that is no
+-- NaN and a point with finite cost and slope. From the order of floats. Assumes nothing.
 use mathlib.Core.Path.{_≡_, refl}
 use mathlib.Core.Bool.{Bool, true, false, cond, _&&_, _||_, false≢true}
 use mathlib.Core.Option.{some, none}
@@ -13,7 +13,8 @@ use Rattle.rules.specs.Rules.{updateOf}
 use Rattle.bracketing.specs.Decisions.{updatedOf}
 
 -- the five guards, of which one holds
-by-guards : {A : Type 0} (out up down under over : Bool) (w x y z : A) → (up ≡ false → down ≡ true) → (under ≡ false → over ≡ true)
+by-guards : {A : Type 0} (out up down under over : Bool) (w x y z : A) → (up ≡ false → down ≡ true)
+    → (under ≡ false → over ≡ true)
     → cond out (some w) (cond up (some x) (cond (down && under) (some y) (cond (down && over) (some z) none)))
     ≡ some (cond out w (cond up x (cond under y z)))
 by-guards true up down under over w x y z p q = refl

@@ -1,5 +1,6 @@
--- What `updated` decides at any numbers. Nobody needs this to check 01: where L is no NaN and cost and slope are finite, which is so wherever a search
--- comes here, it is 01's update (`decides`, proofs/Decides.antt). At a NaN what is not >= 0 counts as below 0, and what is not <= L as above L.
+-- What `updated` decides at any numbers. Nobody needs this to check 01: where L is no NaN and cost and slope are
+-- finite, which is so wherever a search comes here, it is 01's update (`decides`, proofs/Decides.antt). At a NaN what
+-- is not >= 0 counts as below 0, and what is not <= L as above L.
 use mathlib.Core.Bool.{cond, _||_}
 use lib.Ieee.{Float}
 use Rattle.floats.specs.Arithmetic.{_≤ᶠ_, _≥ᶠ_, 0ᶠ}

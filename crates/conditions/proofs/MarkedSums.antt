@@ -1,4 +1,5 @@
--- 01's marked sums M10, M11 and M12, about the conditions as specs/Conditions.antt writes them. f0 = 1, s0 = -2, t = 1 throughout. Assumes nothing.
+-- 01's marked sums M10, M11 and M12, about the conditions as specs/Conditions.antt writes them. f0 = 1, s0 = -2, t = 1
+-- throughout. Assumes nothing.
 use mathlib.Core.Path.{_≡_, refl}
 use mathlib.Core.Bool.{Bool, true, false}
 use lib.Ieee.{Float, add, sub, mul, div, neg, le, lt, eq, ofBits, ofInt}

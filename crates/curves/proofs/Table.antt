@@ -1,5 +1,6 @@
--- The table's rule, proved once over the table: a test that holds of each entry holds at every place; so each coefficient is an i8. And nothing is lost in the cast to
--- f64: cast back, each coefficient is what it was (`cast-back`). Assumes nothing.
+-- The table's rule, proved once over the table: a test that holds of each entry holds at every place; so each
+-- coefficient is an i8. And nothing is lost in the cast to f64: cast back, each coefficient is what it was
+-- (`cast-back`). Assumes nothing.
 use mathlib.Core.Path.{_≡_, refl}
 use mathlib.Core.Bool.{Bool, true, _&&_}
 use mathlib.Core.List.{List, [], _∷_, map}
@@ -19,7 +20,8 @@ abbrev every : (ℤ → Bool) → List ℤ → Bool
 every test [] = true
 every test (z ∷ zs) = test z && every test zs
 
-every-at : (test : ℤ → Bool) (zs : List ℤ) (other : ℤ) → T (every test zs) → T (test other) → (i : ℕ) → T (test (getD zs i other))
+every-at : (test : ℤ → Bool) (zs : List ℤ) (other : ℤ) → T (every test zs) → T (test other) → (i : ℕ)
+    → T (test (getD zs i other))
 every-at test [] other t o i = o
 every-at test (z ∷ zs) other t o zero = and-l (test z) (every test zs) t
 every-at test (z ∷ zs) other t o (suc i) = every-at test zs other (and-r (test z) (every test zs) t) o i

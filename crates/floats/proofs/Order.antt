@@ -1,7 +1,7 @@
--- The order of floats of any sign, as laws of the tests' outcomes (`x <ᶠ y ≡ true`), which is how a branch hands them over. A comparison that
--- holds has no NaN in it, so transitivity and what follows from a test that held ask nothing more; only the way from a test that FAILED to its
--- converse asks that neither side is a NaN: at a NaN both tests fail, which is how an old order once stayed in force. -0 and +0 are level.
--- Assumes nothing.
+-- The order of floats of any sign, as laws of the tests' outcomes (`x <ᶠ y ≡ true`), which is how a branch hands them
+-- over. A comparison that holds has no NaN in it, so transitivity and what follows from a test that held ask nothing
+-- more; only the way from a test that FAILED to its converse asks that neither side is a NaN: at a NaN both tests fail,
+-- which is how an old order once stayed in force. -0 and +0 are level. Assumes nothing.
 use mathlib.Core.Path.{_≡_, refl}
 use mathlib.Core.Logic.{_⊎_, inl, inr}
 use mathlib.Core.Bool.{true, false, false≢true}
@@ -48,11 +48,15 @@ pub nlt→le : (x y : Float) → isNan x ≡ false → isNan y ≡ false → x <
 nlt→le x y p q h = is-true (le y x) (converse y x (no q) (no p) (no h))
 
 pub nle→lt : (x y : Float) → isNan x ≡ false → isNan y ≡ false → x ≤ᶠ y ≡ false → y <ᶠ x ≡ true
-nle→lt x y p q h = elim (yes-or-no (lt y x)) [ inl k ↦ is-true (lt y x) k | inr n ↦ absurd (T-not (le x y) (no h) (converse x y (no p) (no q) n)) ]
+nle→lt x y p q h =
+    elim (yes-or-no (lt y x))
+    [ inl k ↦ is-true (lt y x) k | inr n ↦ absurd (T-not (le x y) (no h) (converse x y (no p) (no q) n)) ]
 
 -- ---- an order
 pub le-total : (x y : Float) → isNan x ≡ false → isNan y ≡ false → (x ≤ᶠ y ≡ true) ⊎ (y ≤ᶠ x ≡ true)
-le-total x y p q = elim (yes-or-no (lt y x)) [ inl k ↦ inr (is-true (le y x) (weaken y x k)) | inr n ↦ inl (is-true (le x y) (converse x y (no p) (no q) n)) ]
+le-total x y p q =
+    elim (yes-or-no (lt y x))
+    [ inl k ↦ inr (is-true (le y x) (weaken y x k)) | inr n ↦ inl (is-true (le x y) (converse x y (no p) (no q) n)) ]
 
 pub lt-irrefl : (x : Float) → x <ᶠ x ≡ false
 lt-irrefl x = elim (yes-or-no (lt x x)) [ inl k ↦ absurd (excludes x x k (weaken x x k)) | inr n ↦ is-false (lt x x) n ]

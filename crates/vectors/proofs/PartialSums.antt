@@ -1,5 +1,5 @@
--- A partial sum that is not finite stays so to the end, so that one test of the last sum finds an overflow at any place: a dot that is given
--- as a value had only finite partial sums (`partial-sums-finite`). Assumes nothing.
+-- A partial sum that is not finite stays so to the end, so that one test of the last sum finds an overflow at any
+-- place: a dot that is given as a value had only finite partial sums (`partial-sums-finite`). Assumes nothing.
 use mathlib.Core.Path.{_≡_, refl, sym, ap, _∙_}
 use mathlib.Core.List.{List, [], _∷_, foldl, foldl-append}
 use mathlib.Core.Bool.{Bool, true, false, cond, Bool·beq, true≢false}
@@ -31,7 +31,8 @@ finite-before : (s : Float) (ps : List Float) (b : Bool) → finite s ≡ b → 
 finite-before s ps true e h = refl
 finite-before s ps false e h = absurd (true≢false (sym h ∙ stays-not-finite s ps e))
 
-pub partial-sums-finite : (p : Float) (ps : List Float) (i : ℕ) → finite (foldl _⊕_ p ps) ≡ true → finite (foldl _⊕_ p (take i ps)) ≡ true
+pub partial-sums-finite : (p : Float) (ps : List Float) (i : ℕ) → finite (foldl _⊕_ p ps) ≡ true
+    → finite (foldl _⊕_ p (take i ps)) ≡ true
 partial-sums-finite p ps i h =
     finite-before (foldl _⊕_ p (take i ps)) (drop i ps) _ refl
     (ap finite (sym (foldl-append _⊕_ p (take i ps) (drop i ps)) ∙ ap (foldl _⊕_ p) (take-append-drop i ps)) ∙ h)

@@ -1,4 +1,5 @@
--- `curves::entry` meets its contract: the code's table is 01's, and each of its entries is an i8, so that nothing is lost on the way. Assumes nothing.
+-- `curves::entry` meets its contract: the code's table is 01's, and each of its entries is an i8, so that nothing is
+-- lost on the way. Assumes nothing.
 use mathlib.Core.Path.{ap}
 use lib.Ieee.{binary64, ofInt}
 use mir.Facts.{toZ-ofZ}

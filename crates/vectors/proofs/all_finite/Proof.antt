@@ -35,7 +35,8 @@ returns : tie.Need-returns Inv-loop μ-loop
 returns c =
     let l = c .before .before .before .before in
     let xs = now (l .before .before .args .xs) in
-    let f : finite (getD xs (l .loop .i) nan) ≡ false = sym (c .before .is-finite .ensures) ∙ not-true _ (c .if1 .taken) in
+    let f : finite (getD xs (l .loop .i) nan) ≡ false =
+    sym (c .before .is-finite .ensures) ∙ not-true _ (c .if1 .taken) in
     sym (l .loop .inv .1 ∙ finite-step xs (l .loop .i) (omega arith) ∙ rw f)
 
 add-i : tie.Need-add-i Inv-loop μ-loop
@@ -48,7 +49,8 @@ loop-again : tie.Need-loop-again Inv-loop μ-loop
 loop-again c =
     let l = c .before .before .before .before in
     let xs = now (l .before .before .args .xs) in
-    let f : finite (getD xs (l .loop .i) nan) ≡ true = sym (c .before .is-finite .ensures) ∙ not-false _ (c .if1 .left) in
+    let f : finite (getD xs (l .loop .i) nan) ≡ true =
+    sym (c .before .is-finite .ensures) ∙ not-false _ (c .if1 .left) in
     (omega arith, l .loop .inv .1 ∙ finite-step xs (l .loop .i) (omega arith) ∙ rw f)
 
 returns-2 : tie.Need-returns-2 Inv-loop μ-loop
@@ -58,5 +60,6 @@ returns-2 c =
 
 pub all-finite-spec : {M : Type 1} → statement M
 all-finite-spec =
-    tie.close (tie.spec Inv-loop μ-loop loop-holds mul-is-finite shared-slice-read-is-finite is-finite-requires returns add-i loop-less loop-again
+    tie.close (tie.spec Inv-loop μ-loop loop-holds mul-is-finite shared-slice-read-is-finite is-finite-requires returns
+    add-i loop-less loop-again
     returns-2)

@@ -27,7 +27,8 @@ returns c =
     let i = l .loop .i in
     let n : length m ≡ length (now (a .x0)) = zip-length (movedBy (a .alpha)) _ _ (omega arith) in
     let f : finite (getD m i nan) ≡ false =
-    ap finite (zip-at (movedBy (a .alpha)) _ _ i (omega arith) (omega arith)) ∙ sym (c .before .is-finite .ensures) ∙ not-true _ (c .if1 .taken) in
+    ap finite (zip-at (movedBy (a .alpha)) _ _ i (omega arith) (omega arith)) ∙ sym (c .before .is-finite .ensures)
+    ∙ not-true _ (c .if1 .taken) in
     sym (l .loop .inv .1 ∙ finite-step m i (omega arith) ∙ rw f)
 
 loop-again : tie.Need-loop-again Inv-loop μ-loop
@@ -38,17 +39,20 @@ loop-again c =
     let i = l .loop .i in
     let n : length m ≡ length (now (a .x0)) = zip-length (movedBy (a .alpha)) _ _ (omega arith) in
     let f : finite (getD m i nan) ≡ true =
-    ap finite (zip-at (movedBy (a .alpha)) _ _ i (omega arith) (omega arith)) ∙ sym (c .before .is-finite .ensures) ∙ not-false _ (c .if1 .left) in
+    ap finite (zip-at (movedBy (a .alpha)) _ _ i (omega arith) (omega arith)) ∙ sym (c .before .is-finite .ensures)
+    ∙ not-false _ (c .if1 .left) in
     (omega arith, l .loop .inv .1 ∙ finite-step m i (omega arith) ∙ rw f)
 
 returns-2 : tie.Need-returns-2 Inv-loop μ-loop
 returns-2 c =
     let l = c .before in
     let a = l .before .before .before .args in
-    let n : length (moved (now (a .x0)) (a .alpha) (now (a .d))) ≡ length (now (a .x0)) = zip-length (movedBy (a .alpha)) _ _ (omega arith) in
+    let n : length (moved (now (a .x0)) (a .alpha) (now (a .d))) ≡ length (now (a .x0)) =
+    zip-length (movedBy (a .alpha)) _ _ (omega arith) in
     sym (l .loop .inv .1 ∙ finite-end _ (l .loop .i) (omega arith))
 
 pub stays-finite-spec : {M : Type 1} → statement M
 stays-finite-spec =
-    tie.close (tie.spec Inv-loop μ-loop (λ c. (omega arith, refl)) (λ c. omega arith) (λ c. omega arith) (λ c. omega arith) (λ c. omega arith)
+    tie.close (tie.spec Inv-loop μ-loop (λ c. (omega arith, refl)) (λ c. omega arith) (λ c. omega arith)
+    (λ c. omega arith) (λ c. omega arith)
     (λ c κs. tt) returns (λ c. omega arith) (λ c. omega arith) loop-again returns-2)

@@ -22,7 +22,8 @@ returns-3 : tie.Need-returns-3
 unfolding bestOver
 returns-3 c =
     let s = c .before .before .before .before .before .before .before .before .before .before .args in
-    rw (c .before .before .before .before .before .if1 .left, c .if2 .left) (either-way (lowest (s .a) (s .b) (s .c)) (s .a))
+    rw (c .before .before .before .before .before .if1 .left, c .if2 .left)
+    (either-way (lowest (s .a) (s .b) (s .c)) (s .a))
 
 pub best-spec : {M : Type 1} → statement M
 best-spec = tie.close (tie.spec returns returns-2 returns-3)

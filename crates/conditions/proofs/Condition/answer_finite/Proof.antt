@@ -7,4 +7,8 @@ use Rattle.conditions.proofs.Condition.answer_finite.Tie as tie
 pub answer-finite-spec : {M : Type 1} → statement M
 answer-finite-spec =
     tie.close
-    (tie.spec (λ c κs. search needs) (λ c κs. search needs) (λ c κs. search needs) (λ c. if-yes _ _ _ _ (by-call _ _ _ (c .before .before .needs-slope .ensures) (c .before .if1 .taken)) (c .both-finite .ensures)) (λ c. if-no _ _ _ _ (by-call _ _ _ (c .before .before .needs-slope .ensures) (c .before .if1 .left)) (c .is-finite .ensures)))
+    (tie.spec (λ c κs. search needs) (λ c κs. search needs) (λ c κs. search needs)
+    (λ c. if-yes _ _ _ _ (by-call _ _ _ (c .before .before .needs-slope .ensures) (c .before .if1 .taken))
+    (c .both-finite .ensures))
+    (λ c. if-no _ _ _ _ (by-call _ _ _ (c .before .before .needs-slope .ensures) (c .before .if1 .left))
+    (c .is-finite .ensures)))
