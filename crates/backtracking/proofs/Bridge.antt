@@ -1,7 +1,7 @@
 -- One answer to the machine is one answer to 01's rules: what the next state stands for is what the rules leave, and
 -- what is told is what they tell. A start is the rules' start. Assumes nothing of a state but that its limit is a u32.
 use mathlib.Core.Path.{_≡_, refl, sym, ap, _∙_}
-use mathlib.Core.Bool.{Bool, true, false, cond}
+use mathlib.Core.Bool.{cond}
 use Prim.Native.Nat.{ℕ, zero, suc, _+_, _-_, _<_}
 use native.Mathlib.Omega.{arith}
 use lib.Dec.{leb}

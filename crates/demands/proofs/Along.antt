@@ -1,41 +1,23 @@
 -- The machine along any answers is the rules' search, for a start that no row refuses: what it tells, holds and awaits,
 -- what was asked in the iteration under way, and what is counted. From one answer (hagerzhang/proofs/Bridge.antt) to
 -- any list (outcomes/proofs/Machines.antt). Assumes nothing.
-use mathlib.Core.Path.{_≡_, refl, sym, ap, ap₂, _∙_, subst}
-use mathlib.Core.Bool.{Bool, true, false, cond, not}
-use mathlib.Core.List.{List, [], _∷_, _++_}
-use mathlib.Core.Option.{Option, some, none}
-use Prim.Native.Nat.{ℕ, _+_, _*_, _≤_, _<_}
+use mathlib.Core.Path.{_≡_, refl, sym, ap, ap₂, _∙_}
+use mathlib.Core.Bool.{Bool, false, cond, not}
+use mathlib.Core.List.{List, [], _∷_}
+use mathlib.Core.Option.{Option}
+use Prim.Native.Nat.{ℕ, _+_, _≤_, _<_}
 use native.Mathlib.Omega.{arith}
 use lib.Dec.{ltb}
 use lib.Ieee.{Float, isNan}
 use Rattle.floats.proofs.Order.{finite→real}
-use Rattle.outcomes.specs.Outcomes.{Told}
-use Rattle.outcomes.specs.Asking.{
-  Search as Rest,
-  ask,
-  end,
-  Reply,
-  respond,
-  shown,
-  reported,
-  awaits,
-  isOver as over,
-  onceTold,
-  outcomes,
-  after,
-  accepted,
-  reached,
-  played,
-  tallied,
-}
+use Rattle.outcomes.specs.Asking.{Search as Rest, ask, end, Reply, respond, shown, reported, awaits, isOver as over, onceTold, outcomes, after, accepted, reached, tallied}
 use Rattle.outcomes.proofs.Machines as machines
 use Rattle.outcomes.proofs.Refusals.{Passed}
 use Rattle.rules.specs.declared.Point.{Point}
 use Rattle.rules.specs.declared.Options.{Options}
 use Rattle.rules.specs.declared.Setup.{Setup}
 use Rattle.rules.specs.Parameters.{setupOf, startRows}
-use Rattle.rules.specs.Rules.{point, answerFinite, Report, iterationsIn, search}
+use Rattle.rules.specs.Rules.{answerFinite, Report, search}
 use Rattle.rules.specs.Iterations.{progress, noted, kept, under-way, finished-by}
 use Rattle.rules.proofs.Ranges.{limit-fits, level-finite}
 use Rattle.hagerzhang.specs.declared.Stage.{Stage}

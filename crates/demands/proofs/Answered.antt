@@ -1,8 +1,8 @@
 -- 01's table of refusals for Hager-Zhang, of any state: an answer is refused by 8 and by 2 exactly when their rows say
 -- so, and else by 6, 5 or 7 at most; and what that leaves (`answered`). Assumes nothing.
 use mathlib.Core.Path.{_≡_, refl, sym, ap, _∙_}
-use mathlib.Core.Bool.{Bool, true, false, cond, not, true≢false, false≢true}
-use mathlib.Core.Option.{none, some, Option·none-ne-some}
+use mathlib.Core.Bool.{Bool, true, false, cond, true≢false, false≢true}
+use mathlib.Core.Option.{Option·none-ne-some}
 use Prim.Native.Nat.{ℕ}
 use lib.Ieee.{Float}
 use Rattle.outcomes.specs.Outcomes.{Ending, asks, ends, told}
@@ -19,9 +19,9 @@ use Rattle.hagerzhang.specs.declared.Stage.the-variants.{Open, Over}
 use Rattle.hagerzhang.specs.declared.Search.{Search}
 use Rattle.hagerzhang.specs.declared.Step.{Step}
 use Rattle.hagerzhang.specs.Machine.{ending, keptOf, keptAt, reactOf, stepTo, takenOf, answerBy, AnswerSaid}
-use Rattle.hagerzhang.specs.Meaning.{keptReport, isOver, OfTheStep, not-refused}
+use Rattle.hagerzhang.specs.Meaning.{isOver, OfTheStep, not-refused}
 use Rattle.hagerzhang.proofs.Answering.{Said, goes-on as asks-on, ended, react-said}
-use Rattle.demands.specs.Demand1.{earlyRows, Answered}
+use Rattle.demands.specs.Demand1.{Answered}
 
 -- ---- a finite answer: what it says of the stage that it leaves
 of-step : {stage : Stage} {o : Outcome} → Said stage o → OfTheStep (refusalIn (told o))

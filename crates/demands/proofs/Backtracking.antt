@@ -2,35 +2,18 @@
 -- 01's rules; it is over after 1 + N answers; its evaluations are the finite answers accepted (`searches`). Assumes
 -- nothing.
 use mathlib.Core.Path.{_≡_, refl, sym, ap, _∙_, subst}
-use mathlib.Core.Bool.{Bool, true, false, cond, not, false≢true}
+use mathlib.Core.Bool.{Bool, true, false, cond, not}
 use mathlib.Core.List.{List, [], _∷_}
 use Prim.Native.Nat.{ℕ, zero, suc, _+_, _-_, _≤_, _<_}
 use native.Mathlib.Omega.{arith}
 use lib.Dec.{leb}
 use Rattle.floats.specs.Arithmetic.{_⊗_}
-use lib.ListN.{length}
 use lib.Ieee.{Float}
 use lib.Ieee.Scale.{finite}
 use borrow.Author.Tests.{leb-true, not-false}
 use Rattle.numbers.specs.Results.{value}
 use Rattle.outcomes.specs.Outcomes.{met, stop, limit, refusal, answerNotFinite, stepNotFinite}
-use Rattle.outcomes.specs.Asking.{
-  Search,
-  end,
-  Over as Ended,
-  over,
-  Reply,
-  respond,
-  shown,
-  reported,
-  isOver,
-  onceTold,
-  outcomes,
-  after,
-  accepted,
-  notFinite,
-  tallied,
-}
+use Rattle.outcomes.specs.Asking.{Search, end, Over as Ended, over, Reply, respond, shown, reported, isOver, onceTold, outcomes, after, accepted, tallied}
 use Rattle.outcomes.specs.Counters.{counted}
 use Rattle.outcomes.proofs.Ends.{
   Ends,
@@ -57,7 +40,7 @@ use Rattle.backtracking.specs.Backtracking.{limitInRange, parametersInRange, in
 use Rattle.backtracking.specs.Machine.{triedOf, answerBy, answerOf, fresh, startOf}
 use Rattle.backtracking.specs.Meaning.{meaning, meant}
 use Rattle.backtracking.proofs.Bridge.{follows, starts-whole, asked-shown}
-use Rattle.demands.specs.Backtracking.{triedOut, next, says, reachedBy, toldBy, isAsking, Searches}
+use Rattle.demands.specs.Backtracking.{triedOut, next, says, reachedBy, isAsking, Searches}
 
 limit-in-range : (s : Setup) → Passed (startRows s) → inRanges s ≡ true
 limit-in-range s (and two (and three all)) = not-false _ three

@@ -1,9 +1,9 @@
 -- Demand 1: every function that can refuse does so by its table, and leaves what 01 says (`demand1`). A result is
 -- defined as the first row that holds, so the tables are read off the definitions. Assumes nothing.
-use mathlib.Core.Path.{_≡_, refl, sym, ap, _∙_}
+use mathlib.Core.Path.{_≡_, refl, ap, _∙_}
 use mathlib.Core.List.{List}
 use Prim.Native.Nat.{ℕ}
-use Rattle.numbers.specs.Results.{Result, value, refused}
+use Rattle.numbers.specs.Results.{value}
 use Rattle.outcomes.specs.Refusals.{given, inOrder, Table, refusedBy}
 use Rattle.outcomes.proofs.Refusals.{by-rows}
 use Rattle.vectors.specs.Vectors.{dotRows, pointRows}

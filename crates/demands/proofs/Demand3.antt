@@ -5,11 +5,10 @@ use mathlib.Core.Bool.{Bool, true, false, false≢true}
 use mathlib.Core.List.{List, [], _∷_}
 use Prim.Native.Nat.{ℕ, _+_, _*_, _≤_}
 use native.Mathlib.Omega.{arith}
-use lib.ListN.{length}
 use lib.Ieee.{Float}
 use Rattle.numbers.specs.Results.{value}
-use Rattle.outcomes.specs.Outcomes.{Ending, stop, limit, refusal, Why, ends, asks, numbered}
-use Rattle.outcomes.specs.Asking.{Search as Rest, ask, end, Over, over, Reply, respond, shown, reported, after}
+use Rattle.outcomes.specs.Outcomes.{Ending, stop, limit, refusal, Why, ends, numbered}
+use Rattle.outcomes.specs.Asking.{Search as Rest, ask, end, Reply, respond, shown, reported, after}
 use Rattle.outcomes.proofs.Apart.{same-end, asks-not-ends}
 use Rattle.outcomes.proofs.Ends.{Ends as EndsWithin, ends-over, ends-accepted, non-finite-once}
 use Rattle.outcomes.proofs.Refusals.{Passed, passed}
@@ -17,32 +16,16 @@ use Rattle.rules.specs.declared.Point.{Point}
 use Rattle.rules.specs.declared.Options.{Options}
 use Rattle.rules.specs.declared.Setup.{Setup}
 use Rattle.rules.specs.Parameters.{setupOf, startRows}
-use Rattle.rules.specs.Rules.{answerFinite, Last, Report, noneYet, last, iterationsIn, search}
-use Rattle.rules.specs.Iterations.{
-  Premise,
-  Bracketed,
-  Within,
-  Finished,
-  Moves,
-  under-way,
-  Ends,
-  verdict,
-  at-limit,
-  not-finite,
-  trial-not-finite,
-  U3-not-finite,
-  spent,
-  not-between,
-  already,
-}
+use Rattle.rules.specs.Rules.{answerFinite, Report, noneYet, last, iterationsIn, search}
+use Rattle.rules.specs.Iterations.{under-way, Ends, verdict, at-limit, not-finite, trial-not-finite, U3-not-finite, spent, not-between, already}
 use Rattle.rules.proofs.Ranges.{level-finite, min-finite, max-finite, start-finite, most-answers}
 use Rattle.rules.proofs.Bounds.{search-within}
 use Rattle.rules.proofs.Demand3 as rules
 use Rattle.hagerzhang.specs.declared.Search.{Search}
 use Rattle.hagerzhang.specs.declared.Step.{Step}
 use Rattle.hagerzhang.specs.Machine.{fresh, startOf}
-use Rattle.hagerzhang.specs.Meaning.{report, isOver}
-use Rattle.demands.specs.Runs.{reachedBy, toldAt, one-more, finiteBy, notFiniteBy, askedBy, askedAt, finishedBy}
+use Rattle.hagerzhang.specs.Meaning.{report}
+use Rattle.demands.specs.Runs.{reachedBy, one-more, finiteBy}
 use Rattle.demands.specs.Demand3.{AtLimit, Bounded, Demand3}
 use Rattle.demands.proofs.Along.{
   after-one-more,

@@ -2,7 +2,7 @@
 -- 6, 5, 7 or its next step exactly when 01 says so; and every step that it asks is finite, in U3 strictly between its ends
 -- (`refused-rightly`). From the rules (rules/proofs/Demand3.antt). Assumes nothing.
 use mathlib.Core.Path.{_≡_, refl, sym, ap, _∙_, subst}
-use mathlib.Core.Bool.{Bool, true, false, cond, not, _&&_, _||_, false≢true}
+use mathlib.Core.Bool.{Bool, true, false, _&&_, _||_, false≢true}
 use mathlib.Core.List.{List, []}
 use mathlib.Core.Option.{Option, some, none}
 use Prim.Native.Nat.{ℕ, _<_}
@@ -24,7 +24,7 @@ use Rattle.rules.specs.declared.Came.the-variants.{To, On}
 use Rattle.rules.specs.declared.Options.{Options}
 use Rattle.rules.specs.declared.Setup.{Setup}
 use Rattle.rules.specs.Parameters.{setupOf, startRows}
-use Rattle.rules.specs.Rules.{answerFinite, middleOf, Last, Report, last, search}
+use Rattle.rules.specs.Rules.{middleOf, Last, Report, last, search}
 use Rattle.rules.specs.Iterations.{
   under-way,
   standing,
@@ -46,9 +46,9 @@ use Rattle.rules.specs.Iterations.{
 use Rattle.rules.proofs.Demand3 as rules
 use Rattle.hagerzhang.specs.declared.Step.{Step}
 use Rattle.hagerzhang.specs.Machine.{answerOf, fresh, startOf}
-use Rattle.hagerzhang.specs.Meaning.{report, isOver, OfTheStep, not-refused, six, five, seven}
-use Rattle.demands.specs.Runs.{reachedBy, toldAt, one-more}
-use Rattle.demands.specs.Demand1.{earlyRows, Reason, toldInU3, Refused}
+use Rattle.hagerzhang.specs.Meaning.{OfTheStep, not-refused, six, five, seven}
+use Rattle.demands.specs.Runs.{reachedBy, one-more}
+use Rattle.demands.specs.Demand1.{Reason, toldInU3, Refused}
 use Rattle.demands.proofs.Along.{after-one-more, report-at, report-next, told-at, asked-by}
 use Rattle.demands.proofs.Answered.{answered}
 

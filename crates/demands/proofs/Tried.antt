@@ -8,7 +8,6 @@ use lib.Dec.{leb}
 use lib.Ieee.{Float}
 use lib.Ieee.Scale.{finite}
 use Rattle.floats.specs.Arithmetic.{_⊗_}
-use Rattle.outcomes.specs.Outcomes.{told}
 use Rattle.outcomes.specs.Refusals.{given, inOrder}
 use Rattle.outcomes.specs.Counters.{counted, evaluations, iterations}
 use Rattle.outcomes.proofs.Apart.{asks-not-ends}
@@ -23,7 +22,7 @@ use Rattle.backtracking.specs.declared.Stage.{Stage as Trying}
 use Rattle.backtracking.specs.declared.Stage.the-variants.{First, Later, Over as TriedOut}
 use Rattle.backtracking.specs.declared.Backtracking.{Backtracking}
 use Rattle.backtracking.specs.declared.Step.{Step}
-use Rattle.backtracking.specs.Machine.{madeOf, triedOf, answerBy, answerOf, AnswerSaid}
+use Rattle.backtracking.specs.Machine.{madeOf, triedOf, answerBy, AnswerSaid}
 use Rattle.demands.specs.Backtracking.{triedOut, nextTrial, trialDue, notFinite, trialsRows, trialsKept, Tried}
 
 -- a trial at t, with which `now` iterations are counted

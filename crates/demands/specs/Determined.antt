@@ -8,33 +8,24 @@ use mathlib.Core.Path.{_≡_}
 use mathlib.Core.List.{List}
 use lib.Ieee.{Float}
 use Rattle.text.specs.Text.{Writes}
-use Rattle.vectors.specs.declared.DotResult.{DotResult}
 use Rattle.vectors.specs.declared.PointResult.{PointResult}
 use Rattle.vectors.specs.Told.{DotSaid, PointSaid}
 use Rattle.outcomes.specs.declared.Outcome.{Outcome}
 use Rattle.outcomes.specs.Outcomes.{told}
 use Rattle.conditions.specs.declared.Condition.{Condition}
-use Rattle.conditions.specs.declared.Checked.{Checked}
 use Rattle.conditions.specs.Told.{CheckedSaid}
 use Rattle.curves.specs.declared.Curve.{Curve}
-use Rattle.curves.specs.declared.Known.{Known}
 use Rattle.curves.specs.Told.{NumberedSaid}
-use Rattle.jobs.specs.declared.Reading.{Reading}
 use Rattle.jobs.specs.Reader.{ReadSaid}
-use Rattle.opening.specs.declared.Opened.{Opened}
 use Rattle.opening.specs.Start.{BeginSaid}
 use Rattle.play.specs.declared.Played.{Played}
 use Rattle.play.specs.declared.Written.{Written}
 use Rattle.play.specs.Playing.{PlaySaid}
 use Rattle.backtracking.specs.declared.Setup.{Setup as Trials}
 use Rattle.backtracking.specs.declared.Backtracking.{Backtracking}
-use Rattle.backtracking.specs.declared.Step.{Step as Trials·Step}
-use Rattle.backtracking.specs.declared.Started.{Started as Trials·Started}
 use Rattle.backtracking.specs.Machine as trials
 use Rattle.rules.specs.declared.Options.{Options}
 use Rattle.hagerzhang.specs.declared.Search.{Search}
-use Rattle.hagerzhang.specs.declared.Step.{Step}
-use Rattle.hagerzhang.specs.declared.Started.{Started}
 use Rattle.hagerzhang.specs.Machine.{StartSaid, AnswerSaid}
 
 -- any two results that a relation allows are identical

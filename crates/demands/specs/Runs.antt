@@ -1,7 +1,7 @@
 -- A Hager-Zhang search of the machine, along any answers: the state that is reached, what is told, what was asked in
 -- the iteration under way, and what is counted. `answerOf` is what `answer` gives, by its contract.
 use Prim.Native.Nat.{ℕ, _+_}
-use mathlib.Core.Bool.{Bool, true, cond, not}
+use mathlib.Core.Bool.{Bool, cond, not}
 use mathlib.Core.List.{List, [], _∷_, _++_}
 use mathlib.Core.Option.{Option, some, none}
 use lib.Dec.{ltb}

@@ -4,7 +4,7 @@ use mathlib.Core.Bool.{false≢true}
 use Prim.Native.Nat.{ℕ}
 use native.Mathlib.Omega.{arith}
 use lib.Ieee.{Float}
-use Rattle.outcomes.specs.Outcomes.{Ending, Told, asks, ends, Why}
+use Rattle.outcomes.specs.Outcomes.{Ending, asks, ends, Why}
 use Rattle.outcomes.specs.Asking.{Search, ask, Over, over, end, reported, isOver}
 
 pub asks-not-ends : (x : Float) (e : Ending ℕ) → ends e ≡ asks x → ⊥

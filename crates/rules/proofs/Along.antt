@@ -17,7 +17,6 @@ use Rattle.outcomes.specs.Outcomes.{Ending, Why, asks, numbered}
 use Rattle.outcomes.specs.Asking.{Search, ask, end, over, Reply, respond, shown, reported, after}
 use Rattle.outcomes.proofs.Apart.{asks-not-ends, same-step, asks-not-over, same-kept, same-reason}
 use Rattle.rules.specs.declared.Point.{Point}
-use Rattle.rules.specs.declared.Bracket.{Bracket}
 use Rattle.rules.specs.declared.Setup.{Setup}
 use Rattle.rules.specs.Rules.{point, Last, Report, noneYet, last, iterationsIn}
 use Rattle.rules.specs.Iterations.{

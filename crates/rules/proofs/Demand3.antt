@@ -2,10 +2,9 @@
 -- each end came from, and how many answers it took), `bracket-stays` and `bracket-narrows` under demand 3's three facts
 -- of the answered ends; the counts; why each step is asked and each search ended (`asks`, `ends`); that all reported
 -- numbers are finite. About 01's rules; the machine reports what they report. Assumes nothing.
-use mathlib.Core.Path.{_≡_, refl, sym, ap, _∙_, subst}
+use mathlib.Core.Path.{_≡_, refl, ap, subst}
 use mathlib.Core.Bool.{Bool, true, false, cond, true≢false}
 use mathlib.Core.List.{List, [], _∷_}
-use mathlib.Core.Option.{some}
 use Prim.Native.Nat.{ℕ, suc, _+_, _*_, _≤_}
 use native.Mathlib.Omega.{arith}
 use lib.ListN.{length}
@@ -25,60 +24,15 @@ use Rattle.outcomes.specs.Outcomes.{
   unreachable,
   asks as asking,
 }
-use Rattle.outcomes.specs.Asking.{Search, ask, end, Over, over, Reply, respond, shown, reported, isOver, after}
+use Rattle.outcomes.specs.Asking.{Search, end, Over, over, Reply, respond, shown, reported, after}
 use Rattle.outcomes.proofs.Refusals.{Passed}
 use Rattle.rules.specs.declared.Point.{Point}
 use Rattle.rules.specs.declared.Bracket.{Bracket}
 use Rattle.rules.specs.declared.Options.{Options}
 use Rattle.rules.specs.declared.Setup.{Setup}
-use Rattle.rules.specs.declared.Came.{Came}
-use Rattle.rules.specs.declared.Came.the-variants.{To, On}
 use Rattle.rules.specs.Parameters.{setupOf, startRows}
-use Rattle.rules.specs.Rules.{
-  point,
-  bracket,
-  answerFinite,
-  Last,
-  Report,
-  noneYet,
-  last,
-  iterationsIn,
-  reportOf,
-  rounds,
-  askStart,
-  askHigh,
-  search,
-}
-use Rattle.rules.specs.Iterations.{
-  Premise,
-  Bracketed,
-  Within,
-  progress,
-  noted,
-  kept,
-  under-way,
-  finished-by,
-  Finished,
-  Moves,
-  as-before,
-  first,
-  one-more,
-  standing,
-  had,
-  Asks,
-  trial,
-  inside,
-  Ends,
-  verdict,
-  at-limit,
-  not-finite,
-  trial-not-finite,
-  U3-not-finite,
-  spent,
-  not-between,
-  already,
-  reportFinite,
-}
+use Rattle.rules.specs.Rules.{point, bracket, answerFinite, Last, Report, noneYet, last, iterationsIn, rounds, askStart, askHigh, search}
+use Rattle.rules.specs.Iterations.{Premise, Bracketed, Within, progress, noted, kept, under-way, finished-by, Finished, Moves, as-before, first, one-more, Asks, inside, Ends, verdict, at-limit, not-finite, trial-not-finite, U3-not-finite, spent, not-between, already, reportFinite}
 use Rattle.rules.proofs.Ranges.{level-finite, min-finite, max-finite, start-finite, low-below-high}
 use Rattle.rules.proofs.Along.{
   Stands,

@@ -1,18 +1,18 @@
 -- Demand 3 and the refusals over the whole search, said of each finished iteration, each step that is asked and each
 -- ending (`search-arrives`): by one pass through the flow of the rules. Assumes nothing.
-use mathlib.Core.Path.{_≡_, refl, sym, ap, _∙_, subst}
-use mathlib.Core.Bool.{Bool, true, false, cond, _&&_}
+use mathlib.Core.Path.{_≡_, refl, ap, subst}
+use mathlib.Core.Bool.{Bool, true, cond, _&&_}
 use mathlib.Core.List.{List, [], _∷_}
 use mathlib.Core.Logic.{inl, inr}
-use mathlib.Core.Option.{Option, some, none}
+use mathlib.Core.Option.{Option, some}
 use Prim.Native.Nat.{ℕ, zero, suc, _+_, _*_, _≤_, _<_}
 use native.Mathlib.Omega.{arith}
 use lib.ListN.{length}
 use lib.Ieee.{Float}
 use lib.Ieee.Scale.{finite}
 use Rattle.floats.specs.Arithmetic.{_<ᶠ_}
-use Rattle.outcomes.specs.Outcomes.{refusal, Why, answerNotFinite, stepNotFinite, stepNotBetween, budgetSpent}
-use Rattle.outcomes.specs.Asking.{Run, ask, end, Search, over, keeping, reported}
+use Rattle.outcomes.specs.Outcomes.{refusal, answerNotFinite, stepNotFinite, stepNotBetween}
+use Rattle.outcomes.specs.Asking.{end, Search, over, keeping, reported}
 use Rattle.outcomes.proofs.Branches.{and-first, and-second}
 use Rattle.rules.specs.declared.Point.{Point}
 use Rattle.rules.specs.declared.Bracket.{Bracket}

@@ -6,7 +6,7 @@
 use mathlib.Core.Path.{_≡_, refl, sym, _∙_}
 use mathlib.Core.Bool.{Bool, true, false, cond, _&&_, _||_, false≢true}
 use mathlib.Core.List.{List, [], _∷_}
-use mathlib.Core.Option.{Option, some, none}
+use mathlib.Core.Option.{Option, some}
 use lib.Ieee.{Float}
 use lib.Ieee.Scale.{finite}
 use Rattle.floats.specs.Arithmetic.{_<ᶠ_, _≤ᶠ_, _>ᶠ_, _≥ᶠ_, 0ᶠ}
@@ -17,18 +17,7 @@ use Rattle.rules.specs.declared.Bracket.{Bracket}
 use Rattle.rules.specs.declared.Came.{Came}
 use Rattle.rules.specs.declared.Came.the-variants.{To, On}
 use Rattle.rules.specs.Rules.{updateOf, narrowedOf}
-use Rattle.rules.specs.Iterations.{
-  Premise,
-  Bracketed,
-  Within,
-  here,
-  there,
-  Came-from,
-  former-low,
-  former-high,
-  asked-now,
-  pointFinite,
-}
+use Rattle.rules.specs.Iterations.{Bracketed, Within, here, there, Came-from, former-low, former-high, asked-now, pointFinite}
 
 -- both ends have finite numbers
 pub record EndsFinite (w : Bracket) : Type 0 where

@@ -1,6 +1,5 @@
 -- `hagerzhang::awaited` meets its contract: the step at which the rules await an answer. Assumes nothing.
 use mathlib.Core.Path.{ap}
-use lib.Ieee.{Float}
 use Rattle.hagerzhang.specs.declared.Due.the-variants.{Step}
 use Rattle.hagerzhang.specs.Machine.{dueAt}
 use Rattle.hagerzhang.proofs.Answering.{awaited-promised}

@@ -1,5 +1,4 @@
 -- `hagerzhang::held` meets its contract: what a state holds, which is what the rules report there. Assumes nothing.
-use mathlib.Core.Path.{_∙_}
 use Rattle.hagerzhang.specs.Machine.{keptAt}
 use Rattle.hagerzhang.proofs.Answering.{held-promised}
 use borrow.Author.Needs.{needs}
