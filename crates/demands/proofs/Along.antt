@@ -10,7 +10,8 @@ use native.Mathlib.Omega.{arith}
 use lib.Dec.{ltb}
 use lib.Ieee.{Float, isNan}
 use Rattle.floats.proofs.Order.{finite→real}
-use Rattle.outcomes.specs.Asking.{Search as Rest, ask, end, Reply, respond, shown, reported, awaits, isOver as over, onceTold, outcomes, after, accepted, reached, tallied}
+use Rattle.outcomes.specs.Asking.{Search as Rest, ask, end, Reply, respond, shown, reported, awaits, isOver as over, onceTold, outcomes, after, reached, tallied}
+use Rattle.outcomes.proofs.Accepted.{accepted}
 use Rattle.outcomes.proofs.Machines as machines
 use Rattle.outcomes.proofs.Refusals.{Passed}
 use Rattle.rules.specs.declared.Point.{Point}
@@ -18,7 +19,8 @@ use Rattle.rules.specs.declared.Options.{Options}
 use Rattle.rules.specs.declared.Setup.{Setup}
 use Rattle.rules.specs.Parameters.{setupOf, startRows}
 use Rattle.rules.specs.Rules.{answerFinite, Report, search}
-use Rattle.rules.specs.Iterations.{progress, noted, kept, under-way, finished-by}
+use Rattle.rules.specs.Iterations.{progress}
+use Rattle.rules.proofs.UnderWay.{noted, kept, under-way, finished-by}
 use Rattle.rules.proofs.Ranges.{limit-fits, level-finite}
 use Rattle.hagerzhang.specs.declared.Stage.{Stage}
 use Rattle.hagerzhang.specs.declared.Stage.the-variants.{Open, Over}

@@ -25,24 +25,8 @@ use Rattle.rules.specs.declared.Options.{Options}
 use Rattle.rules.specs.declared.Setup.{Setup}
 use Rattle.rules.specs.Parameters.{setupOf, startRows}
 use Rattle.rules.specs.Rules.{middleOf, Last, Report, last, search}
-use Rattle.rules.specs.Iterations.{
-  under-way,
-  standing,
-  had,
-  InU3,
-  Asks,
-  trial,
-  inside,
-  Ends,
-  verdict,
-  at-limit,
-  not-finite,
-  trial-not-finite,
-  U3-not-finite,
-  spent,
-  not-between,
-  already,
-}
+use Rattle.rules.specs.Iterations.{standing, had, InU3, Asks, trial, inside, Ends, verdict, at-limit, not-finite, trial-not-finite, U3-not-finite, spent, not-between, already}
+use Rattle.rules.proofs.UnderWay.{under-way}
 use Rattle.rules.proofs.Demand3 as rules
 use Rattle.hagerzhang.specs.declared.Step.{Step}
 use Rattle.hagerzhang.specs.Machine.{answerOf, fresh, startOf}

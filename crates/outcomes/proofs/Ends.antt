@@ -1,8 +1,8 @@
 -- A search that ends within n answers, whatever they are, and in which an answer that is not finite is refused (2) and
 -- the last: it is over after n answers, accepts at most n, and of those that it is given while it asks at most one is
 -- not finite. Assumes nothing.
-use mathlib.Core.Path.{_≡_, refl, sym, _∙_}
-use mathlib.Core.Bool.{Bool, true, false, cond, not, true≢false}
+use mathlib.Core.Path.{_≡_, refl}
+use mathlib.Core.Bool.{Bool, true, false, cond, not}
 use mathlib.Core.List.{List, [], _∷_}
 use Prim.Native.Nat.{ℕ, zero, suc, _+_, _≤_}
 use native.Mathlib.Nat.{not-suc-le-zero, le-of-suc-le-suc}
@@ -11,22 +11,8 @@ use lib.ListN.{length}
 use lib.Ieee.{Float}
 use Rattle.outcomes.proofs.Machines.{none-more}
 use Rattle.outcomes.specs.Outcomes.{refusal, answerNotFinite}
-use Rattle.outcomes.specs.Asking.{
-  ask,
-  end,
-  Search,
-  Over,
-  over,
-  keeping,
-  question,
-  Reply,
-  respond,
-  reported,
-  isOver,
-  after,
-  accepted,
-  notFinite,
-}
+use Rattle.outcomes.specs.Asking.{ask, end, Search, Over, over, keeping, question, Reply, respond, isOver, after}
+use Rattle.outcomes.proofs.Accepted.{accepted, notFinite}
 
 pub data Ends {K : Type 0} (finite : Float → Float → Bool) : ℕ → Search K → Type 0 where
   at-end : {n : ℕ} {o : Over K} → Ends finite n (end o)
@@ -78,14 +64,6 @@ module _ {K : Type 0} {finite : Float → Float → Bool} where
       one-at-most (counted (y .0) (y .1)) _ _ (ends-accepted counted (e (y .0) (y .1)) ys)
 
   -- ---- an answer that is not finite
-
-  pub non-finite-last : {n : ℕ} {r : Search K} → Ends finite n r → (ys : List Reply) (f g : Float)
-      → isOver (after r ys) ≡ false → finite f g ≡ false
-      → respond (after r ys) f g ≡ over (reported (after r ys)) (refusal (answerNotFinite f g))
-  unfolding isOver after respond reported
-  non-finite-last (at-end {o = o}) ys f g asking u = absurd (true≢false (sym (stays-over o ys) ∙ asking))
-  non-finite-last (at-ask v e) [] f g asking u = v f g u
-  non-finite-last (at-ask v e) (y ∷ ys) f g asking u = non-finite-last (e (y .0) (y .1)) ys f g asking u
 
   pub non-finite-once : {n : ℕ} {r : Search K} → Ends finite n r → (ys : List Reply) → notFinite finite r ys ≤ 1
   unfolding accepted

@@ -1,4 +1,5 @@
 pub mod Branches
+pub mod Accepted
 pub mod Ends
 pub mod Machines
 pub mod Determined

@@ -2,7 +2,7 @@
 -- The rules of a search are written as a run: it asks for cost and slope at a step and goes on by the answer, until it
 -- has a result.
 use Prim.Native.Nat.{ℕ, _+_}
-use mathlib.Core.Bool.{Bool, true, false, cond, not, _&&_}
+use mathlib.Core.Bool.{Bool, true, false, cond, _&&_}
 use mathlib.Core.List.{List, [], _∷_}
 use mathlib.Core.Option.{Option, some, none}
 use lib.Ieee.{Float}
@@ -78,7 +78,7 @@ module _ {K : Type 0} where
   firstOf (value r) = shown r
   firstOf (refused n) = ends (refusal n)
 
-  -- ---- for any list of answers: what they bring, where they lead, and how many of them are accepted
+  -- ---- for any list of answers: what they bring, and where they lead
 
   unfoldable pub outcomes : Search K → List Reply → List Told
   outcomes r [] = []
@@ -87,17 +87,6 @@ module _ {K : Type 0} where
   unfoldable pub after : Search K → List Reply → Search K
   after r [] = r
   after r (y ∷ ys) = after (respond r (y .0) (y .1)) ys
-
-  -- 01: "Evaluations count every finite answer accepted": those given while the search asks that pass the test
-  unfoldable pub accepted : (Float → Float → Bool) → Search K → List Reply → ℕ
-  accepted isFinite r [] = 0
-  accepted isFinite (end o) (y ∷ ys) = 0
-  accepted isFinite (ask k x then) (y ∷ ys) =
-      cond (isFinite (y .0) (y .1)) 1 0 + accepted isFinite (then (y .0) (y .1)) ys
-
-  -- and those given while it asks that do not
-  abbrev pub notFinite : (Float → Float → Bool) → Search K → List Reply → ℕ
-  notFinite isFinite r ys = accepted (λ f g. not (isFinite f g)) r ys
 
 -- 01, refusal 2: a step is asked; an answer that is not finite, by the search's test, is refused
 module _ {K R : Type 0} (isFinite : Float → Float → Bool) (refuse : Why → R) (k : K) where

@@ -2,6 +2,7 @@ pub mod MarkedSums
 pub mod Ranges
 pub mod StaysBracket
 pub mod Iterations
+pub mod UnderWay
 pub mod EachIteration
 pub mod Along
 pub mod Bounds

@@ -2,11 +2,10 @@
 -- leaves; where U3 stands; and why a step is asked, or a search is over.
 use Prim.Native.Nat.{ℕ, suc, _+_, _*_, _≤_, _<_}
 use mathlib.Core.Path.{_≡_}
-use mathlib.Core.Bool.{Bool, true, false, cond, _&&_}
+use mathlib.Core.Bool.{Bool, true, false, _&&_}
 use mathlib.Core.List.{List, [], _∷_}
 use mathlib.Core.Logic.{_⊎_, inl, inr}
 use mathlib.Core.Option.{Option, some, none}
-use lib.Dec.{ltb}
 use lib.ListN.{length}
 use lib.Ieee.{Float}
 use lib.Ieee.Scale.{finite}
@@ -25,27 +24,14 @@ use Rattle.outcomes.specs.Outcomes.{
   verdictWord,
 }
 use Rattle.outcomes.specs.declared.Verdict.{Verdict}
-use Rattle.outcomes.specs.Asking.{Run, ask, end, Search, Reply, respond, reported}
+use Rattle.outcomes.specs.Asking.{Run, ask, end}
 use Rattle.rules.specs.declared.Point.{Point}
 use Rattle.rules.specs.declared.Bracket.{Bracket}
 use Rattle.rules.specs.declared.Setup.{Setup}
 use Rattle.rules.specs.declared.Came.{Came}
 use Rattle.rules.specs.declared.Came.the-variants.{To, On}
 use Rattle.rules.specs.declared.Judged.the-variants.{Holds, Fails}
-use Rattle.rules.specs.Rules.{
-  point,
-  answerFinite,
-  updateOf,
-  middleOf,
-  narrowedOf,
-  judgedOf,
-  iteration,
-  Last,
-  Report,
-  noneYet,
-  last,
-  iterationsIn,
-}
+use Rattle.rules.specs.Rules.{point, answerFinite, updateOf, middleOf, narrowedOf, judgedOf, iteration, Last, Report, noneYet, last}
 
 -- ---- demand 3's three facts, and where a bracket lies
 
@@ -71,29 +57,6 @@ pub record Within (w u : Bracket) : Type 0 where
 abbrev pub progress : Report → ℕ
 progress noneYet = 0
 progress (last p) = suc (p .iterations)
-
--- the points asked, with their answers, newest first
-abbrev pub noted : Search Report → Reply → List Point → List Point
-noted (ask k x then) y asked = point x (y .0) (y .1) ∷ asked
-noted (end o) y asked = asked
-
--- an answer that brings the search further finishes what was under way, and the next iteration begins with nothing
--- asked
-abbrev pub kept : Search Report → Reply → List Point → List Point
-kept r y asked = cond (ltb (progress (reported r)) (progress (reported (respond r (y .0) (y .1))))) [] (noted r y asked)
-
--- those of the start or the iteration under way, after the answers
-unfoldable pub under-way : List Point → Search Report → List Reply → List Point
-under-way asked r [] = asked
-under-way asked r (y ∷ ys) = under-way (kept r y asked) (respond r (y .0) (y .1)) ys
-
--- how many of the answers finish an iteration: then the report counts it
-abbrev pub finishes : Search Report → Reply → Bool
-finishes r y = ltb (iterationsIn (reported r)) (iterationsIn (reported (respond r (y .0) (y .1))))
-
-unfoldable pub finished-by : Search Report → List Reply → ℕ
-finished-by r [] = 0
-finished-by r (y ∷ ys) = cond (finishes r y) 1 0 + finished-by (respond r (y .0) (y .1)) ys
 
 -- ---- an iteration by itself: it comes to a refusal, or to the next bracket
 

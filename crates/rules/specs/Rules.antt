@@ -196,8 +196,8 @@ pub record Last : Type 0 where
   pub best : Point
   pub iterations : ℕ
 
--- with `noneYet` no iteration is finished either. Evaluations are not reported here: they are counted over the whole
--- run, by `accepted` of outcomes/specs/Asking.antt
+-- with `noneYet` no iteration is finished either. Evaluations are not reported here: they are counted over all
+-- answers, by `tallied` of outcomes/specs/Asking.antt
 pub data Report : Type 0 where
   noneYet : Report
   last : Last → Report
