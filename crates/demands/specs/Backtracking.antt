@@ -47,6 +47,8 @@ abbrev pub notFinite : Option Float → Bool
 notFinite none = false
 notFinite (some x) = not (finite x)
 
+-- 8, 2, 5. (A finite step times a rho below 1 is finite, so a search that `start` gave never comes to 5. That is not
+-- proved.)
 abbrev pub trialsRows : Backtracking → Float → Float → List Row
 trialsRows b f g =
     (8, triedOut (b .stage))

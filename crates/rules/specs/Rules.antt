@@ -223,7 +223,7 @@ module _ (s : Setup) where
       let best = bestOf (w .a) (w .b) start in
       decided (reportOf w start i) (best .x) go (judgedOf s best)
 
-  -- "After an iteration the verdict is tested first, then the limit; only then is the next step worked out." n
+  -- "After an iteration the verdict is tested first, then the limit; only then is the next step worked out .." n
   -- iterations may still be begun.
   unfoldable pub rounds : ℕ → Bracket → Point → ℕ → Search Report
   rounds zero w start i =
