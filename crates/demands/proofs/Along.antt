@@ -10,7 +10,22 @@ use native.Mathlib.Omega.{arith}
 use lib.Dec.{ltb}
 use lib.Ieee.{Float, isNan}
 use Rattle.floats.proofs.Order.{finite→real}
-use Rattle.outcomes.specs.Asking.{Search as Rest, ask, end, Reply, respond, shown, reported, awaits, isOver as over, onceTold, outcomes, after, reached, tallied}
+use Rattle.outcomes.specs.Asking.{
+  Search as Rest,
+  ask,
+  end,
+  Reply,
+  respond,
+  shown,
+  reported,
+  awaits,
+  isOver as over,
+  onceTold,
+  outcomes,
+  after,
+  reached,
+  tallied,
+}
 use Rattle.outcomes.proofs.Accepted.{accepted}
 use Rattle.outcomes.proofs.Machines as machines
 use Rattle.outcomes.proofs.Refusals.{Passed}

@@ -13,7 +13,21 @@ use lib.Ieee.Scale.{finite}
 use borrow.Author.Tests.{leb-true, not-false}
 use Rattle.numbers.specs.Results.{value}
 use Rattle.outcomes.specs.Outcomes.{met, stop, limit, refusal, answerNotFinite, stepNotFinite}
-use Rattle.outcomes.specs.Asking.{Search, end, Over as Ended, over, Reply, respond, shown, reported, isOver, onceTold, outcomes, after, tallied}
+use Rattle.outcomes.specs.Asking.{
+  Search,
+  end,
+  Over as Ended,
+  over,
+  Reply,
+  respond,
+  shown,
+  reported,
+  isOver,
+  onceTold,
+  outcomes,
+  after,
+  tallied,
+}
 use Rattle.outcomes.proofs.Accepted.{accepted}
 use Rattle.outcomes.specs.Counters.{counted}
 use Rattle.outcomes.proofs.Ends.{

@@ -17,7 +17,17 @@ use Rattle.rules.specs.declared.Options.{Options}
 use Rattle.rules.specs.declared.Setup.{Setup}
 use Rattle.rules.specs.Parameters.{setupOf, startRows}
 use Rattle.rules.specs.Rules.{answerFinite, Report, noneYet, last, iterationsIn, search}
-use Rattle.rules.specs.Iterations.{Ends, verdict, at-limit, not-finite, trial-not-finite, U3-not-finite, spent, not-between, already}
+use Rattle.rules.specs.Iterations.{
+  Ends,
+  verdict,
+  at-limit,
+  not-finite,
+  trial-not-finite,
+  U3-not-finite,
+  spent,
+  not-between,
+  already,
+}
 use Rattle.rules.proofs.UnderWay.{under-way}
 use Rattle.rules.proofs.Ranges.{level-finite, min-finite, max-finite, start-finite, most-answers}
 use Rattle.rules.proofs.Bounds.{search-within}

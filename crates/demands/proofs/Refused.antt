@@ -1,6 +1,6 @@
 -- Every Hager-Zhang search that `start` gave ends for a reason that is true of its numbers; where U3 goes on it tells
--- 6, 5, 7 or its next step exactly when 01 says so; and every step that it asks is finite, in U3 strictly between its ends
--- (`refused-rightly`). From the rules (rules/proofs/Demand3.antt). Assumes nothing.
+-- 6, 5, 7 or its next step exactly when 01 says so; and every step that it asks is finite, in U3 strictly between its
+-- ends (`refused-rightly`). From the rules (rules/proofs/Demand3.antt). Assumes nothing.
 use mathlib.Core.Path.{_≡_, refl, sym, ap, _∙_, subst}
 use mathlib.Core.Bool.{Bool, true, false, _&&_, _||_, false≢true}
 use mathlib.Core.List.{List, []}
@@ -25,7 +25,23 @@ use Rattle.rules.specs.declared.Options.{Options}
 use Rattle.rules.specs.declared.Setup.{Setup}
 use Rattle.rules.specs.Parameters.{setupOf, startRows}
 use Rattle.rules.specs.Rules.{middleOf, Last, Report, last, search}
-use Rattle.rules.specs.Iterations.{standing, had, InU3, Asks, trial, inside, Ends, verdict, at-limit, not-finite, trial-not-finite, U3-not-finite, spent, not-between, already}
+use Rattle.rules.specs.Iterations.{
+  standing,
+  had,
+  InU3,
+  Asks,
+  trial,
+  inside,
+  Ends,
+  verdict,
+  at-limit,
+  not-finite,
+  trial-not-finite,
+  U3-not-finite,
+  spent,
+  not-between,
+  already,
+}
 use Rattle.rules.proofs.UnderWay.{under-way}
 use Rattle.rules.proofs.Demand3 as rules
 use Rattle.hagerzhang.specs.declared.Step.{Step}

@@ -77,8 +77,50 @@ use Rattle.rules.specs.Rules.{
   search,
 }
 use Rattle.bracketing.proofs.Decides.{decides}
-use Rattle.hagerzhang.specs.Machine.{tryAt, finishedOf, comesOf, leftOf, attemptOf, probeOf, testedOf, madeBy, triedBy, afterS4Of, afterS1Of, followBy, onwardOf, outlookBy, madeOf, settledOf, wentOf, runningOf, reactOf, keptOf, stepAsked, stepOf, takenOf, answerBy, answerOf, fresh, startOf, StartSaid, AnswerSaid}
-use Rattle.hagerzhang.specs.Meaning.{lastOf, keptReport, ended, afterTrial, onAsked, onAnswer, meaning, meant, begun, Starts, Follows}
+use Rattle.hagerzhang.specs.Machine.{
+  tryAt,
+  finishedOf,
+  comesOf,
+  leftOf,
+  attemptOf,
+  probeOf,
+  testedOf,
+  madeBy,
+  triedBy,
+  afterS4Of,
+  afterS1Of,
+  followBy,
+  onwardOf,
+  outlookBy,
+  madeOf,
+  settledOf,
+  wentOf,
+  runningOf,
+  reactOf,
+  keptOf,
+  stepAsked,
+  stepOf,
+  takenOf,
+  answerBy,
+  answerOf,
+  fresh,
+  startOf,
+  StartSaid,
+  AnswerSaid,
+}
+use Rattle.hagerzhang.specs.Meaning.{
+  lastOf,
+  keptReport,
+  ended,
+  afterTrial,
+  onAsked,
+  onAnswer,
+  meaning,
+  meant,
+  begun,
+  Starts,
+  Follows,
+}
 
 denote : Setup → Next → Seen Report
 denote s n = (meaning s (n .stage), told (n .outcome))

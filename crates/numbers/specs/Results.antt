@@ -1,5 +1,5 @@
--- What a routine answers: a value, or a refusal by its number; and how 01's table "Numbers in, numbers refused" gives the number.
--- (What the caller answers to a search is a cost and a slope, a `Reply`.)
+-- What a routine answers: a value, or a refusal by its number; and how 01's table "Numbers in, numbers refused" gives
+-- the number. (What the caller answers to a search is a cost and a slope, a `Reply`.)
 use Prim.Native.Nat.{ℕ}
 use mathlib.Core.Bool.{Bool, cond}
 use mathlib.Core.List.{List, [], _∷_}
@@ -12,7 +12,8 @@ pub data Result (A : Type 0) : Type 0 where
 abbrev pub Row : Type 0
 Row = ℕ × Bool
 
--- "Order": the first row that holds refuses, and what stands behind it is not looked at; where none holds, this is the value
+-- "Order": the first row that holds refuses, and what stands behind it is not looked at; where none holds, this is the
+-- value
 infixr 20 refuse_else_
 abbrev pub refuse_else_ : {A : Type 0} → List Row → A → Result A
 refuse [] else a = value a

@@ -10,7 +10,23 @@ use lib.Ieee.{Float}
 use borrow.Author.Tests.{lt-ltb}
 use Rattle.outcomes.specs.Outcomes.{Told}
 use Rattle.outcomes.specs.Counters.{counted}
-use Rattle.outcomes.specs.Asking.{ask, end, Search, Over, Reply, respond, shown, reported, isOver, onceTold, outcomes, after, reached, played, tallied}
+use Rattle.outcomes.specs.Asking.{
+  ask,
+  end,
+  Search,
+  Over,
+  Reply,
+  respond,
+  shown,
+  reported,
+  isOver,
+  onceTold,
+  outcomes,
+  after,
+  reached,
+  played,
+  tallied,
+}
 use Rattle.outcomes.proofs.Accepted.{accepted}
 
 module _ {K : Type 0} where

@@ -19,7 +19,19 @@ use Rattle.outcomes.proofs.Apart.{asks-not-ends, same-step, asks-not-over, same
 use Rattle.rules.specs.declared.Point.{Point}
 use Rattle.rules.specs.declared.Setup.{Setup}
 use Rattle.rules.specs.Rules.{point, Last, Report, noneYet, last, iterationsIn}
-use Rattle.rules.specs.Iterations.{progress, Moves, as-before, first, one-more, Asks, trial, inside, Ends, already, reportFinite}
+use Rattle.rules.specs.Iterations.{
+  progress,
+  Moves,
+  as-before,
+  first,
+  one-more,
+  Asks,
+  trial,
+  inside,
+  Ends,
+  already,
+  reportFinite,
+}
 use Rattle.rules.proofs.UnderWay.{noted, kept, under-way, finished-by}
 use Rattle.rules.proofs.Iterations.{Arrives, starts, begins, ended, goes-on, finishes}
 

@@ -31,8 +31,43 @@ use Rattle.rules.specs.declared.Bracket.{Bracket}
 use Rattle.rules.specs.declared.Options.{Options}
 use Rattle.rules.specs.declared.Setup.{Setup}
 use Rattle.rules.specs.Parameters.{setupOf, startRows}
-use Rattle.rules.specs.Rules.{point, bracket, answerFinite, Last, Report, noneYet, last, iterationsIn, rounds, askStart, askHigh, search}
-use Rattle.rules.specs.Iterations.{Premise, Bracketed, Within, progress, Finished, Moves, as-before, first, one-more, Asks, inside, Ends, verdict, at-limit, not-finite, trial-not-finite, U3-not-finite, spent, not-between, already, reportFinite}
+use Rattle.rules.specs.Rules.{
+  point,
+  bracket,
+  answerFinite,
+  Last,
+  Report,
+  noneYet,
+  last,
+  iterationsIn,
+  rounds,
+  askStart,
+  askHigh,
+  search,
+}
+use Rattle.rules.specs.Iterations.{
+  Premise,
+  Bracketed,
+  Within,
+  progress,
+  Finished,
+  Moves,
+  as-before,
+  first,
+  one-more,
+  Asks,
+  inside,
+  Ends,
+  verdict,
+  at-limit,
+  not-finite,
+  trial-not-finite,
+  U3-not-finite,
+  spent,
+  not-between,
+  already,
+  reportFinite,
+}
 use Rattle.rules.proofs.UnderWay.{noted, kept, under-way, finished-by}
 use Rattle.rules.proofs.Ranges.{level-finite, min-finite, max-finite, start-finite, low-below-high}
 use Rattle.rules.proofs.Along.{

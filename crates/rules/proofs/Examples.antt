@@ -1,5 +1,6 @@
 -- The words `standing` and `had` at the numbers of M6 and M7: on (a, b) the trial c = (2, 3, -1) leads to U3 between a
--- and 2, and its answers (0.5, -1) at 1 and (1.5, -1) at 1.5 move first the low end and then the high one. Assumes nothing.
+-- and 2, and its answers (0.5, -1) at 1 and (1.5, -1) at 1.5 move first the low end and then the high one. Assumes
+-- nothing.
 use mathlib.Core.Path.{_≡_, refl}
 use mathlib.Core.List.{[], _∷_}
 use mathlib.Core.Option.{some}

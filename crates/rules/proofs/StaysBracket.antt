@@ -17,7 +17,17 @@ use Rattle.rules.specs.declared.Bracket.{Bracket}
 use Rattle.rules.specs.declared.Came.{Came}
 use Rattle.rules.specs.declared.Came.the-variants.{To, On}
 use Rattle.rules.specs.Rules.{updateOf, narrowedOf}
-use Rattle.rules.specs.Iterations.{Bracketed, Within, here, there, Came-from, former-low, former-high, asked-now, pointFinite}
+use Rattle.rules.specs.Iterations.{
+  Bracketed,
+  Within,
+  here,
+  there,
+  Came-from,
+  former-low,
+  former-high,
+  asked-now,
+  pointFinite,
+}
 
 -- both ends have finite numbers
 pub record EndsFinite (w : Bracket) : Type 0 where

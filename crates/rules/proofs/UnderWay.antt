@@ -1,5 +1,5 @@
--- What a run has asked in the iteration under way, and how many iterations it has finished, for proofs. (The machine's are
--- `askedBy` and `finishedBy`, demands/specs/Runs.antt; demands/proofs/Along.antt says that they are the same.)
+-- What a run has asked in the iteration under way, and how many iterations it has finished, for proofs. (The machine's
+-- are `askedBy` and `finishedBy`, demands/specs/Runs.antt; demands/proofs/Along.antt says that they are the same.)
 use Prim.Native.Nat.{ℕ, _+_}
 use mathlib.Core.Bool.{Bool, cond}
 use mathlib.Core.List.{List, [], _∷_}

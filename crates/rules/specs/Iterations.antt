@@ -31,7 +31,19 @@ use Rattle.rules.specs.declared.Setup.{Setup}
 use Rattle.rules.specs.declared.Came.{Came}
 use Rattle.rules.specs.declared.Came.the-variants.{To, On}
 use Rattle.rules.specs.declared.Judged.the-variants.{Holds, Fails}
-use Rattle.rules.specs.Rules.{point, answerFinite, updateOf, middleOf, narrowedOf, judgedOf, iteration, Last, Report, noneYet, last}
+use Rattle.rules.specs.Rules.{
+  point,
+  answerFinite,
+  updateOf,
+  middleOf,
+  narrowedOf,
+  judgedOf,
+  iteration,
+  Last,
+  Report,
+  noneYet,
+  last,
+}
 
 -- ---- demand 3's three facts, and where a bracket lies
 
