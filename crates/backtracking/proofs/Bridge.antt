@@ -9,17 +9,17 @@ use lib.Ieee.{Float}
 use lib.Ieee.Scale.{finite}
 use borrow.Author.Tests.{le-leb, lt-leb}
 use Rattle.floats.specs.Arithmetic.{_⊗_}
-use Rattle.numbers.specs.Results.{Result, value, refused}
-use Rattle.outcomes.specs.Outcomes.{met, stop, limit, refusal, Told, asks, ends, told, answerNotFinite, stepNotFinite}
-use Rattle.outcomes.specs.Asking.{Search, ask, over, respond, shown, onceTold, firstOf}
-use Rattle.outcomes.specs.Counters.{counted, iterations}
-use Rattle.outcomes.proofs.Machines.{Seen, seen, picks, counts-on}
-use Rattle.outcomes.proofs.Refusals.{alike}
-use Rattle.outcomes.specs.declared.Evaluations.{Evaluations}
-use Rattle.outcomes.specs.declared.Iterations.{Iterations}
-use Rattle.outcomes.specs.declared.Outcome.the-variants.{Ask, Stop, Limit, Refused}
-use Rattle.outcomes.specs.declared.Refusal.the-variants.{SuppliedNotFinite, StepNotFinite}
-use Rattle.outcomes.specs.declared.Verdict.the-variants.{Met}
+use Rattle.refusals.specs.Results.{Result, value, refused}
+use Rattle.runs.specs.Outcomes.{met, stop, limit, refusal, Told, asks, ends, told, answerNotFinite, stepNotFinite}
+use Rattle.runs.specs.Asking.{Search, ask, over, respond, shown, onceTold, firstOf}
+use Rattle.runs.specs.Counters.{counted, iterations}
+use Rattle.runs.proofs.Machines.{Seen, seen, picks, counts-on}
+use Rattle.refusals.proofs.Refusals.{alike}
+use Rattle.runs.specs.declared.Evaluations.{Evaluations}
+use Rattle.runs.specs.declared.Iterations.{Iterations}
+use Rattle.runs.specs.declared.Outcome.the-variants.{Ask, Stop, Limit, Refused}
+use Rattle.refusals.specs.declared.Refusal.the-variants.{SuppliedNotFinite, StepNotFinite}
+use Rattle.runs.specs.declared.Verdict.the-variants.{Met}
 use Rattle.conditions.specs.Conditions.{answerFinite, holdsOf}
 use Rattle.backtracking.specs.declared.Setup.{Setup}
 use Rattle.backtracking.specs.declared.Stage.{Stage}
@@ -29,16 +29,7 @@ use Rattle.backtracking.specs.declared.Step.{Step}
 use Rattle.backtracking.specs.declared.Started.{Started}
 use Rattle.backtracking.specs.declared.Started.the-variants.{Began, NoSearch}
 use Rattle.backtracking.specs.Backtracking.{startRows, trials, search, started}
-use Rattle.backtracking.specs.Machine.{
-  madeOf,
-  fresh,
-  triedOf,
-  answerBy,
-  answerOf,
-  startOf,
-  StartSaid,
-  AnswerSaid,
-}
+use Rattle.backtracking.specs.Machine.{madeOf, fresh, triedOf, answerBy, answerOf, startOf, StartSaid, AnswerSaid}
 use Rattle.backtracking.specs.Meaning.{meaning, meant, Starts, Follows}
 
 -- ---- one answer

@@ -11,15 +11,16 @@ use lib.Ieee.{Float, mul, lt, ofBits, ofInt}
 use lib.Ieee.Scale.{finite}
 use borrow.Author.Tests.{leb-true, not-false}
 use Rattle.floats.specs.Arithmetic.{_⊗_, _<ᶠ_, 1ᶠ}
-use Rattle.outcomes.specs.Outcomes.{met, stop, limit, refusal, asks, ends, told}
-use Rattle.outcomes.specs.Outcomes.{answerNotFinite, stepNotFinite, numberOf}
-use Rattle.outcomes.specs.Asking.{Search, over, respond, shown, reported, isOver, onceTold}
-use Rattle.outcomes.specs.Counters.{counted}
-use Rattle.outcomes.specs.Refusals.{refusedBy}
-use Rattle.outcomes.proofs.Branches.{and-first, and-second}
-use Rattle.outcomes.proofs.Refusals.{Passed, all, and, passed, value-given}
-use Rattle.outcomes.specs.declared.Refusal.{Refusal}
-use Rattle.outcomes.specs.declared.Outcome.the-variants.{Ask, Refused}
+use Rattle.runs.specs.Outcomes.{met, stop, limit, refusal, asks, ends, told}
+use Rattle.runs.specs.Outcomes.{answerNotFinite, stepNotFinite}
+use Rattle.refusals.specs.Refusals.{numberOf}
+use Rattle.runs.specs.Asking.{Search, over, respond, shown, reported, isOver, onceTold}
+use Rattle.runs.specs.Counters.{counted}
+use Rattle.refusals.specs.Refusals.{refusedBy}
+use Rattle.floats.proofs.Branches.{and-first, and-second}
+use Rattle.refusals.proofs.Refusals.{Passed, all, and, passed, value-given}
+use Rattle.refusals.specs.declared.Refusal.{Refusal}
+use Rattle.runs.specs.declared.Outcome.the-variants.{Ask, Refused}
 use Rattle.conditions.specs.declared.Condition.{Condition}
 use Rattle.conditions.specs.Conditions.{answerFinite, holdsOf}
 use Rattle.backtracking.specs.declared.Setup.{Setup}

@@ -7,9 +7,9 @@ use lib.Dec.{leb}
 use lib.Ieee.{Float, binary64, ofBits}
 use lib.Ieee.Scale.{finite}
 use Rattle.floats.specs.Arithmetic.{_⊗_, _<ᶠ_, 0ᶠ, 1ᶠ}
-use Rattle.numbers.specs.Results.{Result, Row, refuse_else_}
-use Rattle.outcomes.specs.Outcomes.{met, stop, limit, refusal, stepNotFinite}
-use Rattle.outcomes.specs.Asking.{Search, over, keeping, question}
+use Rattle.refusals.specs.Results.{Result, Row, refuse_else_}
+use Rattle.runs.specs.Outcomes.{met, stop, limit, refusal, stepNotFinite}
+use Rattle.runs.specs.Asking.{Search, over, keeping, question}
 use Rattle.conditions.specs.declared.Condition.{Condition}
 use Rattle.conditions.specs.Conditions.{constantsFinite, inRange, answerFinite, holdsOf}
 use Rattle.backtracking.specs.declared.Setup.{Setup}

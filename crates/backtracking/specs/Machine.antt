@@ -8,15 +8,15 @@ use lib.Dec.{leb}
 use lib.Ieee.{Float}
 use lib.Ieee.Scale.{finite}
 use Rattle.floats.specs.Arithmetic.{_⊗_}
-use Rattle.numbers.specs.Results.{Result, value, refused, refuse_else_}
-use Rattle.outcomes.specs.declared.Evaluations.{Evaluations}
-use Rattle.outcomes.specs.declared.Iterations.{Iterations}
-use Rattle.outcomes.specs.declared.Outcome.{Outcome}
-use Rattle.outcomes.specs.declared.Outcome.the-variants.{Ask, Stop, Limit, Refused}
-use Rattle.outcomes.specs.declared.Refusal.the-variants.{SuppliedNotFinite, StepNotFinite, AlreadyOver}
-use Rattle.outcomes.specs.declared.Verdict.the-variants.{Met}
-use Rattle.outcomes.specs.Outcomes.{numberOf}
-use Rattle.outcomes.specs.Counters.{counted, evaluations, iterations}
+use Rattle.refusals.specs.Results.{Result, value, refused, refuse_else_}
+use Rattle.runs.specs.declared.Evaluations.{Evaluations}
+use Rattle.runs.specs.declared.Iterations.{Iterations}
+use Rattle.runs.specs.declared.Outcome.{Outcome}
+use Rattle.runs.specs.declared.Outcome.the-variants.{Ask, Stop, Limit, Refused}
+use Rattle.refusals.specs.declared.Refusal.the-variants.{SuppliedNotFinite, StepNotFinite, AlreadyOver}
+use Rattle.runs.specs.declared.Verdict.the-variants.{Met}
+use Rattle.refusals.specs.Refusals.{numberOf}
+use Rattle.runs.specs.Counters.{counted, evaluations, iterations}
 use Rattle.conditions.specs.Conditions.{answerFinite, holdsOf}
 use Rattle.backtracking.specs.declared.Setup.{Setup}
 use Rattle.backtracking.specs.declared.Stage.{Stage}

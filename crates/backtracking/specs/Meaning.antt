@@ -3,10 +3,11 @@
 use Prim.Native.Nat.{ℕ, _-_}
 use mathlib.Core.Path.{_≡_}
 use lib.Ieee.{Float}
-use Rattle.numbers.specs.Results.{Result, value, refused}
-use Rattle.outcomes.specs.Outcomes.{refusal, alreadyOver, Told, ends, numberOf, told}
-use Rattle.outcomes.specs.Asking.{Search, over, respond, shown, firstOf, onceTold}
-use Rattle.outcomes.specs.Counters.{counted}
+use Rattle.refusals.specs.Results.{Result, value, refused}
+use Rattle.runs.specs.Outcomes.{refusal, alreadyOver, Told, ends, told}
+use Rattle.refusals.specs.Refusals.{numberOf}
+use Rattle.runs.specs.Asking.{Search, over, respond, shown, firstOf, onceTold}
+use Rattle.runs.specs.Counters.{counted}
 use Rattle.backtracking.specs.declared.Setup.{Setup}
 use Rattle.backtracking.specs.declared.Stage.{Stage}
 use Rattle.backtracking.specs.declared.Stage.the-variants.{First, Later, Over}

@@ -2,11 +2,11 @@
 // and is given cost and slope there.
 
 use conditions::Condition;
-use outcomes::Evaluations;
-use outcomes::Iterations;
-use outcomes::Outcome;
-use outcomes::Refusal;
-use outcomes::Verdict;
+use refusals::Refusal;
+use runs::Evaluations;
+use runs::Iterations;
+use runs::Outcome;
+use runs::Verdict;
 ghost use mathlib.Core.Path.{_≡_};
 ghost use Rattle.backtracking.specs.Backtracking.{suppliedFinite, inRanges, defaultsOf};
 ghost use Rattle.backtracking.specs.Machine.{madeOf, triedOf, StartSaid, AnswerSaid};

@@ -6,12 +6,13 @@ use hagerzhang::Kept;
 use hagerzhang::Search;
 use hagerzhang::Stage;
 use hagerzhang::Started;
+use hagerzhang_decisions::parameters;
+use hagerzhang_rules::Options;
+use hagerzhang_rules::Params;
+use hagerzhang_rules::Setup;
 use libc::STDOUT_FILENO;
-use outcomes::Evaluations;
-use outcomes::Outcome;
-use rules::Options;
-use rules::Params;
-use rules::Setup;
+use runs::Evaluations;
+use runs::Outcome;
 
 // The sum of the steps, and how many answers are left to give.
 struct Tally {
@@ -130,6 +131,6 @@ fn main() {
     } else {
         50000000
     };
-    io::print_hex(STDOUT_FILENO, bits::bits_of(run(turns)), 16);
+    io::print_hex(STDOUT_FILENO, numbers::bits_of(run(turns)), 16);
     io::write_all(STDOUT_FILENO, b"\n");
 }

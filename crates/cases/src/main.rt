@@ -5,11 +5,11 @@ mod input;
 mod on_vectors;
 mod searches;
 
-use case_fields::Field;
+use case_files::Field;
 use libc::STDOUT_FILENO;
 use searches::Seat;
 use searches::Told;
-ghost use Rattle.case_fields.specs.Fields.{Short};
+ghost use Rattle.case_files.specs.CaseFiles.{Short};
 
 // ---- the text that is not yet written out
 
@@ -67,7 +67,7 @@ fn told(out: &mut [u8], at: usize, cases: u64, t: Told) -> Desk {
 fn begun(out: &mut [u8], at: usize, cases: u64, field: Field, body: &[u8]) -> Desk
     requires { ⌜ Short field ⌝ }
 {
-    let p = case_lines::head(out, at, cases);
+    let p = lines::head(out, at, cases);
     match field {
         Field::StartHagerZhang => told(out, p, cases, searches::hager_zhang(body)),
         Field::StartBacktracking => told(out, p, cases, searches::backtracks(body)),
@@ -82,18 +82,18 @@ fn begun(out: &mut [u8], at: usize, cases: u64, field: Field, body: &[u8]) -> De
 fn served(out: &mut [u8], s: &[u8], desk: Desk, b: u64) -> Desk {
     let seat = desk.seat;
     let body = wire::from(s, 3);
-    let field = case_fields::read(s, searches::searching(seat));
+    let field = case_files::read(s, searches::searching(seat));
     if let Field::Answer = field {
         return told(
             out,
             desk.at,
             desk.cases,
-            searches::answered(seat, case_bodies::answer(body)),
+            searches::answered(seat, bodies::answer(body)),
         );
     }
     let p = searches::closed(out, desk.at, seat);
     if let Field::Malformed = field {
-        return free(case_lines::malformed(out, p, b), desk.cases, true);
+        return free(lines::malformed(out, p, b), desk.cases, true);
     }
     begun(out, p, one_more(desk.cases), field, body)
 }

@@ -9,14 +9,14 @@ ghost use lib.ListN.{length};
 fn vector(body: &[u8], at: usize, v: &mut [f64], n: usize)
     requires { ⌜ n ≤ length (now v) ⌝ }
 {
-    case_bodies::floats(body, at, &mut v[..n]);
+    bodies::floats(body, at, &mut v[..n]);
 }
 
 fn dot_line(out: &mut [u8], at: usize, a: &[f64], n: usize, b: &[f64], m: usize) -> usize
     requires { ⌜ (n ≤ length (now a)) × (m ≤ length (now b)) ⌝ }
 {
     match vectors::dot(&a[..n], &b[..m]) {
-        DotResult::Value(v) => case_lines::value(out, at, v),
+        DotResult::Value(v) => lines::value(out, at, v),
         DotResult::Refused(r) => lines::refused(out, at, r.number()),
     }
 }
@@ -53,7 +53,7 @@ fn point_line(
 fn buffer_line(out: &mut [u8], at: usize, buffer: &[f64], k: usize) -> usize
     requires { ⌜ k ≤ length (now buffer) ⌝ }
 {
-    case_lines::buffer(out, at, &buffer[..k])
+    lines::buffer(out, at, &buffer[..k])
 }
 
 // The buffer is filled before the call, so that it shows what the call wrote.
@@ -62,7 +62,7 @@ pub(crate) fn point(out: &mut [u8], at: usize, body: &[u8], n: usize, m: usize, 
 {
     let mut x0 = [0.0; 511];
     let mut d = [0.0; 511];
-    let infinity = bits::float_of(0x7ff0_0000_0000_0000);
+    let infinity = numbers::float_of(0x7ff0_0000_0000_0000);
     let mut buffer = [infinity; 511];
     vector(body, 14, &mut x0, n);
     vector(body, 14 + 8 * n, &mut d, m);

@@ -1,12 +1,12 @@
 // The search at the desk: how it starts, what an answer comes to, and the lines that close its case.
 
 use backtracking::Backtracking;
-use case_bodies::Reply;
+use bodies::Reply;
 use hagerzhang::Search;
-use outcomes::Evaluations;
-use outcomes::Iterations;
-use outcomes::Outcome;
-use outcomes::Refusal;
+use refusals::Refusal;
+use runs::Evaluations;
+use runs::Iterations;
+use runs::Outcome;
 
 pub(crate) enum Seat {
     // before the first case, and after a dot or a point: there is none, and no answer may come
@@ -70,7 +70,7 @@ fn from_backtracking(step: backtracking::Step) -> Told {
 }
 
 pub(crate) fn hager_zhang(body: &[u8]) -> Told {
-    let b = case_bodies::hager_zhang(body);
+    let b = bodies::hager_zhang(body);
     match hagerzhang::start(b.options, b.f0, b.s0) {
         hagerzhang::Started::Began(step) => from_hager_zhang(step),
         hagerzhang::Started::NoSearch(r) => refused(r),
@@ -78,7 +78,7 @@ pub(crate) fn hager_zhang(body: &[u8]) -> Told {
 }
 
 pub(crate) fn backtracks(body: &[u8]) -> Told {
-    match backtracking::start(case_bodies::backtracking(body)) {
+    match backtracking::start(bodies::backtracking(body)) {
         backtracking::Started::Began(step) => from_backtracking(step),
         backtracking::Started::NoSearch(r) => refused(r),
     }
@@ -99,8 +99,8 @@ pub(crate) fn answered(seat: Seat, y: Reply) -> Told {
 pub(crate) fn closed(out: &mut [u8], at: usize, seat: Seat) -> usize {
     match seat {
         Seat::Free => at,
-        Seat::NoSearch => closing_lines::none(out, at, Evaluations(0), Iterations(0)),
-        Seat::HagerZhang(s) => closing_lines::closing(out, at, s),
-        Seat::Backtracks(s) => closing_lines::none(out, at, s.evaluations, s.iterations),
+        Seat::NoSearch => lines::none(out, at, Evaluations(0), Iterations(0)),
+        Seat::HagerZhang(s) => lines::closing(out, at, s),
+        Seat::Backtracks(s) => lines::none(out, at, s.evaluations, s.iterations),
     }
 }

@@ -1,9 +1,9 @@
 -- Any two results that `checked`'s contract allows are identical (01, "How tight the contracts are"). The other
 -- contracts give the result itself. Assumes nothing.
 use mathlib.Core.Path.{_≡_, refl, sym, ap, _∙_}
-use Rattle.numbers.specs.Results.{Result, value, refused}
-use Rattle.numbers.proofs.Determined.{determined}
-use Rattle.outcomes.proofs.Determined.{withNumber, number-back}
+use Rattle.refusals.specs.Results.{Result, value, refused}
+use Rattle.floats.proofs.Determined.{determined}
+use Rattle.refusals.proofs.Determined.{withNumber, number-back}
 use Rattle.conditions.specs.declared.Condition.{Condition}
 use Rattle.conditions.specs.declared.Checked.{Checked}
 use Rattle.conditions.specs.declared.Checked.the-variants.{Fit, Unfit}

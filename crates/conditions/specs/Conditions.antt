@@ -5,7 +5,7 @@ use mathlib.Core.List.{List, [], _∷_}
 use lib.Ieee.{Float}
 use lib.Ieee.Scale.{finite}
 use Rattle.floats.specs.Arithmetic.{_⊕_, _⊖_, _⊗_, _<ᶠ_, _≤ᶠ_, _≥ᶠ_, 0ᶠ, ½ᶠ, 1ᶠ}
-use Rattle.numbers.specs.Results.{Result, Row, refuse_else_}
+use Rattle.refusals.specs.Results.{Result, Row, refuse_else_}
 use Rattle.numbers.specs.Numbers.{bothFinite, absOf}
 use Rattle.conditions.specs.declared.Condition.{Condition}
 use Rattle.conditions.specs.declared.Condition.the-variants.{Armijo, Goldstein, Wolfe, StrongWolfe}

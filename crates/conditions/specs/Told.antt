@@ -1,7 +1,7 @@
 -- What each case of `checked`'s answer tells, in 01's numbers; and what its contract says (`CheckedSaid`).
 use mathlib.Core.Path.{_≡_}
-use Rattle.numbers.specs.Results.{Result, value, refused}
-use Rattle.outcomes.specs.Outcomes.{numberOf}
+use Rattle.refusals.specs.Results.{Result, value, refused}
+use Rattle.refusals.specs.Refusals.{numberOf}
 use Rattle.conditions.specs.declared.Condition.{Condition}
 use Rattle.conditions.specs.declared.Checked.{Checked}
 use Rattle.conditions.specs.declared.Checked.the-variants.{Fit, Unfit}

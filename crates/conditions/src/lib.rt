@@ -1,7 +1,7 @@
 // The four conditions that a step can be held to, each with its constants (argmin's condition/armijo.rs, goldstein.rs,
 // wolfe.rs, strongwolfe.rs).
 
-use outcomes::Refusal;
+use refusals::Refusal;
 ghost use mathlib.Core.Path.{_≡_};
 ghost use Rattle.conditions.specs.Conditions.{constantsFinite, inRange, needsSlope, answerFinite, holdsOf};
 ghost use Rattle.conditions.specs.Told.{CheckedSaid};

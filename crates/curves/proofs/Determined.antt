@@ -2,9 +2,9 @@
 -- contracts give the result itself. Assumes nothing.
 use mathlib.Core.Path.{_≡_, refl, sym, ap, _∙_}
 use Prim.Native.Nat.{ℕ}
-use Rattle.numbers.specs.Results.{Result, value, refused}
-use Rattle.numbers.proofs.Determined.{determined}
-use Rattle.outcomes.proofs.Determined.{withNumber, number-back}
+use Rattle.refusals.specs.Results.{Result, value, refused}
+use Rattle.floats.proofs.Determined.{determined}
+use Rattle.refusals.proofs.Determined.{withNumber, number-back}
 use Rattle.curves.specs.declared.Curve.{Curve}
 use Rattle.curves.specs.declared.Known.{Known}
 use Rattle.curves.specs.declared.Known.the-variants.{Found, Unknown}

@@ -7,7 +7,7 @@ use lib.IntN.{ℤ, pos, negsuc}
 use lib.ListN.{getD}
 use lib.Ieee.{Float, binary64, ofBits, ofInt}
 use Rattle.floats.specs.Arithmetic.{_⊕_, _⊗_, 2ᶠ}
-use Rattle.numbers.specs.Results.{Result, Row, refuse_else_}
+use Rattle.refusals.specs.Results.{Result, Row, refuse_else_}
 use Rattle.curves.specs.declared.Curve.{Curve}
 
 -- -1, -2, -3, ..

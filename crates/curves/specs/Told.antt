@@ -1,8 +1,8 @@
 -- What each case of `numbered`'s answer tells, in 01's numbers; and what its contract says (`NumberedSaid`).
 use mathlib.Core.Path.{_≡_}
 use Prim.Native.Nat.{ℕ}
-use Rattle.numbers.specs.Results.{Result, value, refused}
-use Rattle.outcomes.specs.Outcomes.{numberOf}
+use Rattle.refusals.specs.Results.{Result, value, refused}
+use Rattle.refusals.specs.Refusals.{numberOf}
 use Rattle.curves.specs.declared.Curve.{Curve}
 use Rattle.curves.specs.declared.Known.{Known}
 use Rattle.curves.specs.declared.Known.the-variants.{Found, Unknown}

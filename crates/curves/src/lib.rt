@@ -1,6 +1,6 @@
 // 01's eight sample curves: polynomials of degree 4, by a fixed table of coefficients.
 
-use outcomes::Refusal;
+use refusals::Refusal;
 ghost use mathlib.Core.Path.{_≡_};
 ghost use Prim.Native.Nat.{_<_};
 ghost use Rattle.curves.specs.Curves.{entryOf, curveAt, valueOf, slopeOf};

@@ -10,33 +10,18 @@ use native.Mathlib.Omega.{arith}
 use lib.Dec.{ltb}
 use lib.Ieee.{Float, isNan}
 use Rattle.floats.proofs.Order.{finite→real}
-use Rattle.outcomes.specs.Asking.{
-  Search as Rest,
-  ask,
-  end,
-  Reply,
-  respond,
-  shown,
-  reported,
-  awaits,
-  isOver as over,
-  onceTold,
-  outcomes,
-  after,
-  reached,
-  tallied,
-}
-use Rattle.outcomes.proofs.Accepted.{accepted}
-use Rattle.outcomes.proofs.Machines as machines
-use Rattle.outcomes.proofs.Refusals.{Passed}
-use Rattle.rules.specs.declared.Point.{Point}
-use Rattle.rules.specs.declared.Options.{Options}
-use Rattle.rules.specs.declared.Setup.{Setup}
-use Rattle.rules.specs.Parameters.{setupOf, startRows}
-use Rattle.rules.specs.Rules.{answerFinite, Report, search}
-use Rattle.rules.specs.Iterations.{progress}
-use Rattle.rules.proofs.UnderWay.{noted, kept, under-way, finished-by}
-use Rattle.rules.proofs.Ranges.{limit-fits, level-finite}
+use Rattle.runs.specs.Asking.{Search as Rest, ask, end, Reply, respond, shown, reported, awaits, isOver as over, onceTold, outcomes, after, reached, tallied}
+use Rattle.runs.proofs.Accepted.{accepted}
+use Rattle.runs.proofs.Machines as machines
+use Rattle.refusals.proofs.Refusals.{Passed}
+use Rattle.hagerzhang_rules.specs.declared.Point.{Point}
+use Rattle.hagerzhang_rules.specs.declared.Options.{Options}
+use Rattle.hagerzhang_rules.specs.declared.Setup.{Setup}
+use Rattle.hagerzhang_rules.specs.Parameters.{setupOf, startRows}
+use Rattle.hagerzhang_rules.specs.Rules.{answerFinite, Report, search}
+use Rattle.hagerzhang_rules.specs.Iterations.{progress}
+use Rattle.hagerzhang_rules.proofs.UnderWay.{noted, kept, under-way, finished-by}
+use Rattle.hagerzhang_rules.proofs.Ranges.{limit-fits, level-finite}
 use Rattle.hagerzhang.specs.declared.Stage.{Stage}
 use Rattle.hagerzhang.specs.declared.Stage.the-variants.{Open, Over}
 use Rattle.hagerzhang.specs.declared.Search.{Search}
@@ -44,21 +29,7 @@ use Rattle.hagerzhang.specs.Machine.{dueIn, takenOf, answerBy, answerOf, fresh}
 use Rattle.hagerzhang.specs.Meaning.{report, isOver, dueTold, meaning, meant}
 use Rattle.hagerzhang.proofs.Bridge.{follows, starts-whole}
 use Rattle.hagerzhang.proofs.Answering.{setup-kept, one-more-if-finite, reports, awaited}
-use Rattle.demands.specs.Runs.{
-  next,
-  says,
-  reachedBy,
-  toldBy,
-  toldAt,
-  one-more,
-  isAsking,
-  note,
-  noteBy,
-  askedFrom,
-  askedBy,
-  askedAt,
-  finishedBy,
-}
+use Rattle.demands.specs.Runs.{next, says, reachedBy, toldBy, toldAt, one-more, isAsking, note, noteBy, askedFrom, askedBy, askedAt, finishedBy}
 
 -- ---- lists
 pub after-one-more : (r : Rest Report) (ys : List Reply) (y : Reply)

@@ -5,14 +5,15 @@ use mathlib.Core.Bool.{Bool, true, false, cond, true≢false, false≢true}
 use mathlib.Core.Option.{Option·none-ne-some}
 use Prim.Native.Nat.{ℕ}
 use lib.Ieee.{Float}
-use Rattle.outcomes.specs.Outcomes.{Ending, asks, ends, told}
-use Rattle.outcomes.specs.Refusals.{given, refusalIn}
-use Rattle.outcomes.specs.Counters.{counted, evaluations}
-use Rattle.outcomes.proofs.Apart.{asks-not-ends}
-use Rattle.outcomes.specs.declared.Outcome.{Outcome}
-use Rattle.outcomes.specs.declared.Outcome.the-variants.{Refused}
-use Rattle.outcomes.specs.declared.Refusal.the-variants.{SuppliedNotFinite}
-use Rattle.rules.specs.Rules.{answerFinite}
+use Rattle.runs.specs.Outcomes.{Ending, asks, ends, told}
+use Rattle.refusals.specs.Refusals.{given}
+use Rattle.runs.specs.Outcomes.{refusalIn}
+use Rattle.runs.specs.Counters.{counted, evaluations}
+use Rattle.runs.proofs.Apart.{asks-not-ends}
+use Rattle.runs.specs.declared.Outcome.{Outcome}
+use Rattle.runs.specs.declared.Outcome.the-variants.{Refused}
+use Rattle.refusals.specs.declared.Refusal.the-variants.{SuppliedNotFinite}
+use Rattle.hagerzhang_rules.specs.Rules.{answerFinite}
 use Rattle.hagerzhang.specs.declared.Waiting.{Waiting}
 use Rattle.hagerzhang.specs.declared.Stage.{Stage}
 use Rattle.hagerzhang.specs.declared.Stage.the-variants.{Open, Over}

@@ -11,40 +11,17 @@ use Rattle.floats.specs.Arithmetic.{_⊗_}
 use lib.Ieee.{Float}
 use lib.Ieee.Scale.{finite}
 use borrow.Author.Tests.{leb-true, not-false}
-use Rattle.numbers.specs.Results.{value}
-use Rattle.outcomes.specs.Outcomes.{met, stop, limit, refusal, answerNotFinite, stepNotFinite}
-use Rattle.outcomes.specs.Asking.{
-  Search,
-  end,
-  Over as Ended,
-  over,
-  Reply,
-  respond,
-  shown,
-  reported,
-  isOver,
-  onceTold,
-  outcomes,
-  after,
-  tallied,
-}
-use Rattle.outcomes.proofs.Accepted.{accepted}
-use Rattle.outcomes.specs.Counters.{counted}
-use Rattle.outcomes.proofs.Ends.{
-  Ends,
-  at-end,
-  ends-if,
-  ends-within,
-  question-ends,
-  ends-over,
-  ends-accepted,
-  non-finite-once,
-}
-use Rattle.outcomes.proofs.Branches.{either, by-test, and-second}
-use Rattle.outcomes.proofs.Machines as machines
-use Rattle.outcomes.proofs.Refusals.{Passed, all, and, passed}
-use Rattle.outcomes.specs.declared.Evaluations.{Evaluations}
-use Rattle.outcomes.specs.declared.Iterations.{Iterations}
+use Rattle.refusals.specs.Results.{value}
+use Rattle.runs.specs.Outcomes.{met, stop, limit, refusal, answerNotFinite, stepNotFinite}
+use Rattle.runs.specs.Asking.{Search, end, Over as Ended, over, Reply, respond, shown, reported, isOver, onceTold, outcomes, after, tallied}
+use Rattle.runs.proofs.Accepted.{accepted}
+use Rattle.runs.specs.Counters.{counted}
+use Rattle.runs.proofs.Ends.{Ends, at-end, ends-if, ends-within, question-ends, ends-over, ends-accepted, non-finite-once}
+use Rattle.floats.proofs.Branches.{either, by-test, and-second}
+use Rattle.runs.proofs.Machines as machines
+use Rattle.refusals.proofs.Refusals.{Passed, all, and, passed}
+use Rattle.runs.specs.declared.Evaluations.{Evaluations}
+use Rattle.runs.specs.declared.Iterations.{Iterations}
 use Rattle.conditions.specs.Conditions.{answerFinite, holdsOf}
 use Rattle.backtracking.specs.declared.Setup.{Setup}
 use Rattle.backtracking.specs.declared.Stage.{Stage}

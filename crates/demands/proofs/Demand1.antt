@@ -3,19 +3,19 @@
 use mathlib.Core.Path.{_≡_, refl, ap, _∙_}
 use mathlib.Core.List.{List}
 use Prim.Native.Nat.{ℕ}
-use Rattle.numbers.specs.Results.{value}
-use Rattle.outcomes.specs.Refusals.{given, inOrder, Table, refusedBy}
-use Rattle.outcomes.proofs.Refusals.{by-rows}
+use Rattle.refusals.specs.Results.{value}
+use Rattle.refusals.specs.Refusals.{given, inOrder, Table, refusedBy}
+use Rattle.refusals.proofs.Refusals.{by-rows}
 use Rattle.vectors.specs.Vectors.{dotRows, pointRows}
 use Rattle.vectors.proofs.Untouched.{buffers-untouched}
 use Rattle.conditions.specs.Conditions.{conditionRows}
 use Rattle.curves.specs.Curves.{curveRows}
-use Rattle.rules.specs.Parameters.{startRows}
+use Rattle.hagerzhang_rules.specs.Parameters.{startRows}
 use Rattle.jobs.specs.declared.Job.{Job}
 use Rattle.jobs.specs.Format.{Field, Holds, meansOf}
 use Rattle.jobs.proofs.BothWays.{job-read, no-job-refused}
-use Rattle.opening.specs.declared.Opened.{Opened}
-use Rattle.opening.specs.Start.{jobRows, beginsBy, openedTold, BeginSaid}
+use Rattle.jobs.specs.declared.Opened.{Opened}
+use Rattle.jobs.specs.Opening.{jobRows, beginsBy, openedTold, BeginSaid}
 use Rattle.demands.specs.Demand1.{Demand1}
 use Rattle.demands.proofs.Answered.{answered}
 use Rattle.demands.proofs.Refused.{refused-rightly}

@@ -8,20 +8,22 @@ use Prim.Native.Nat.{ℕ}
 use lib.Ieee.{Float}
 use Rattle.floats.specs.Arithmetic.{_<ᶠ_}
 use Rattle.floats.proofs.Order.{lt-irrefl}
-use Rattle.numbers.specs.Results.{value}
-use Rattle.outcomes.specs.declared.Refusal.{Refusal}
-use Rattle.outcomes.specs.Outcomes.{asks, numberOf, told}
-use Rattle.outcomes.specs.Asking.{Search as Rest, respond, shown, onceTold}
-use Rattle.outcomes.specs.Refusals.{refusedBy, refusalIn}
-use Rattle.outcomes.proofs.Apart.{same-step}
-use Rattle.outcomes.proofs.Refusals.{Passed, passed, value-given}
-use Rattle.rules.specs.declared.Options.{Options}
-use Rattle.rules.specs.declared.Setup.{Setup}
-use Rattle.rules.specs.Parameters.{setupOf, startRows}
-use Rattle.rules.specs.Rules.{answerFinite, Report, askHigh, search}
-use Rattle.rules.specs.Iterations.{reportFinite}
-use Rattle.rules.proofs.Ranges.{low-below-high}
-use Rattle.rules.proofs.Demand3 as rules
+use Rattle.refusals.specs.Results.{value}
+use Rattle.refusals.specs.declared.Refusal.{Refusal}
+use Rattle.runs.specs.Outcomes.{asks, told}
+use Rattle.refusals.specs.Refusals.{numberOf}
+use Rattle.runs.specs.Asking.{Search as Rest, respond, shown, onceTold}
+use Rattle.refusals.specs.Refusals.{refusedBy}
+use Rattle.runs.specs.Outcomes.{refusalIn}
+use Rattle.runs.proofs.Apart.{same-step}
+use Rattle.refusals.proofs.Refusals.{Passed, passed, value-given}
+use Rattle.hagerzhang_rules.specs.declared.Options.{Options}
+use Rattle.hagerzhang_rules.specs.declared.Setup.{Setup}
+use Rattle.hagerzhang_rules.specs.Parameters.{setupOf, startRows}
+use Rattle.hagerzhang_rules.specs.Rules.{answerFinite, Report, askHigh, search}
+use Rattle.hagerzhang_rules.specs.Iterations.{reportFinite}
+use Rattle.hagerzhang_rules.proofs.Ranges.{low-below-high}
+use Rattle.hagerzhang_rules.proofs.Demand3 as rules
 use Rattle.hagerzhang.specs.declared.Search.{Search}
 use Rattle.hagerzhang.specs.declared.Step.{Step}
 use Rattle.hagerzhang.specs.declared.Started.the-variants.{NoSearch}
@@ -29,8 +31,8 @@ use Rattle.hagerzhang.specs.Machine.{fresh, startOf}
 use Rattle.hagerzhang.specs.Meaning.{meant, Starts, Follows}
 use Rattle.hagerzhang.proofs.Bridge.{follows, starts-whole}
 use Rattle.curves.specs.declared.Curve.{Curve}
-use Rattle.opening.specs.Start.{f0Of, s0Of}
-use Rattle.opening.proofs.Begins.{Begins, begun}
+use Rattle.jobs.specs.Opening.{f0Of, s0Of}
+use Rattle.jobs.proofs.Begins.{Begins, begun}
 use Rattle.demands.specs.Demand2.{ByRules, GivenByStart, Demand2}
 use Rattle.demands.proofs.Along.{outcomes-are, report-at, awaited-at}
 

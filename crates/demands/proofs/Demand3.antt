@@ -6,50 +6,29 @@ use mathlib.Core.List.{List, [], _∷_}
 use Prim.Native.Nat.{ℕ, _+_, _*_, _≤_}
 use native.Mathlib.Omega.{arith}
 use lib.Ieee.{Float}
-use Rattle.numbers.specs.Results.{value}
-use Rattle.outcomes.specs.Outcomes.{Ending, stop, limit, refusal, Why, ends, numbered}
-use Rattle.outcomes.specs.Asking.{Search as Rest, ask, end, Reply, respond, shown, reported, after}
-use Rattle.outcomes.proofs.Apart.{same-end, asks-not-ends}
-use Rattle.outcomes.proofs.Ends.{Ends as EndsWithin, ends-over, ends-accepted, non-finite-once}
-use Rattle.outcomes.proofs.Refusals.{Passed, passed}
-use Rattle.rules.specs.declared.Point.{Point}
-use Rattle.rules.specs.declared.Options.{Options}
-use Rattle.rules.specs.declared.Setup.{Setup}
-use Rattle.rules.specs.Parameters.{setupOf, startRows}
-use Rattle.rules.specs.Rules.{answerFinite, Report, noneYet, last, iterationsIn, search}
-use Rattle.rules.specs.Iterations.{
-  Ends,
-  verdict,
-  at-limit,
-  not-finite,
-  trial-not-finite,
-  U3-not-finite,
-  spent,
-  not-between,
-  already,
-}
-use Rattle.rules.proofs.UnderWay.{under-way}
-use Rattle.rules.proofs.Ranges.{level-finite, min-finite, max-finite, start-finite, most-answers}
-use Rattle.rules.proofs.Bounds.{search-within}
-use Rattle.rules.proofs.Demand3 as rules
+use Rattle.refusals.specs.Results.{value}
+use Rattle.runs.specs.Outcomes.{Ending, stop, limit, refusal, Why, ends, numbered}
+use Rattle.runs.specs.Asking.{Search as Rest, ask, end, Reply, respond, shown, reported, after}
+use Rattle.runs.proofs.Apart.{same-end, asks-not-ends}
+use Rattle.runs.proofs.Ends.{Ends as EndsWithin, ends-over, ends-accepted, non-finite-once}
+use Rattle.refusals.proofs.Refusals.{Passed, passed}
+use Rattle.hagerzhang_rules.specs.declared.Point.{Point}
+use Rattle.hagerzhang_rules.specs.declared.Options.{Options}
+use Rattle.hagerzhang_rules.specs.declared.Setup.{Setup}
+use Rattle.hagerzhang_rules.specs.Parameters.{setupOf, startRows}
+use Rattle.hagerzhang_rules.specs.Rules.{answerFinite, Report, noneYet, last, iterationsIn, search}
+use Rattle.hagerzhang_rules.specs.Iterations.{Ends, verdict, at-limit, not-finite, trial-not-finite, U3-not-finite, spent, not-between, already}
+use Rattle.hagerzhang_rules.proofs.UnderWay.{under-way}
+use Rattle.hagerzhang_rules.proofs.Ranges.{level-finite, min-finite, max-finite, start-finite, most-answers}
+use Rattle.hagerzhang_rules.proofs.Bounds.{search-within}
+use Rattle.hagerzhang_rules.proofs.Demand3 as rules
 use Rattle.hagerzhang.specs.declared.Search.{Search}
 use Rattle.hagerzhang.specs.declared.Step.{Step}
 use Rattle.hagerzhang.specs.Machine.{fresh, startOf}
 use Rattle.hagerzhang.specs.Meaning.{report}
 use Rattle.demands.specs.Runs.{reachedBy, one-more, finiteBy}
 use Rattle.demands.specs.Demand3.{AtLimit, Bounded, Demand3}
-use Rattle.demands.proofs.Along.{
-  after-one-more,
-  report-at,
-  report-next,
-  over-at,
-  told-at,
-  asked-by,
-  asked-at,
-  finished-at,
-  tallied-is,
-  evaluations-are,
-}
+use Rattle.demands.proofs.Along.{after-one-more, report-at, report-next, over-at, told-at, asked-by, asked-at, finished-at, tallied-is, evaluations-are}
 
 -- ---- an ending by the limit is at the N-th iteration
 step-at : Float → Ending ℕ → Float

@@ -12,38 +12,23 @@ use lib.Ieee.{Float}
 use lib.Ieee.Scale.{finite}
 use borrow.Author.Tests.{eq-eqb, ne-eqb}
 use Rattle.floats.specs.Arithmetic.{_<ᶠ_}
-use Rattle.numbers.specs.Results.{value}
-use Rattle.outcomes.specs.Outcomes.{Ending, Why, numbered, Told, asks, ends}
-use Rattle.outcomes.specs.Asking.{Search as Rest, ask, end, Reply, respond, shown, reported, after}
-use Rattle.outcomes.specs.Refusals.{given, refusalIn}
-use Rattle.outcomes.proofs.Apart.{asks-not-ends, same-end}
-use Rattle.outcomes.proofs.Refusals.{Passed, passed}
-use Rattle.rules.specs.declared.Point.{Point}
-use Rattle.rules.specs.declared.Bracket.{Bracket}
-use Rattle.rules.specs.declared.Came.the-variants.{To, On}
-use Rattle.rules.specs.declared.Options.{Options}
-use Rattle.rules.specs.declared.Setup.{Setup}
-use Rattle.rules.specs.Parameters.{setupOf, startRows}
-use Rattle.rules.specs.Rules.{middleOf, Last, Report, last, search}
-use Rattle.rules.specs.Iterations.{
-  standing,
-  had,
-  InU3,
-  Asks,
-  trial,
-  inside,
-  Ends,
-  verdict,
-  at-limit,
-  not-finite,
-  trial-not-finite,
-  U3-not-finite,
-  spent,
-  not-between,
-  already,
-}
-use Rattle.rules.proofs.UnderWay.{under-way}
-use Rattle.rules.proofs.Demand3 as rules
+use Rattle.refusals.specs.Results.{value}
+use Rattle.runs.specs.Outcomes.{Ending, Why, numbered, Told, asks, ends}
+use Rattle.runs.specs.Asking.{Search as Rest, ask, end, Reply, respond, shown, reported, after}
+use Rattle.refusals.specs.Refusals.{given}
+use Rattle.runs.specs.Outcomes.{refusalIn}
+use Rattle.runs.proofs.Apart.{asks-not-ends, same-end}
+use Rattle.refusals.proofs.Refusals.{Passed, passed}
+use Rattle.hagerzhang_rules.specs.declared.Point.{Point}
+use Rattle.hagerzhang_rules.specs.declared.Bracket.{Bracket}
+use Rattle.hagerzhang_rules.specs.declared.Came.the-variants.{To, On}
+use Rattle.hagerzhang_rules.specs.declared.Options.{Options}
+use Rattle.hagerzhang_rules.specs.declared.Setup.{Setup}
+use Rattle.hagerzhang_rules.specs.Parameters.{setupOf, startRows}
+use Rattle.hagerzhang_rules.specs.Rules.{middleOf, Last, Report, last, search}
+use Rattle.hagerzhang_rules.specs.Iterations.{standing, had, InU3, Asks, trial, inside, Ends, verdict, at-limit, not-finite, trial-not-finite, U3-not-finite, spent, not-between, already}
+use Rattle.hagerzhang_rules.proofs.UnderWay.{under-way}
+use Rattle.hagerzhang_rules.proofs.Demand3 as rules
 use Rattle.hagerzhang.specs.declared.Step.{Step}
 use Rattle.hagerzhang.specs.Machine.{answerOf, fresh, startOf}
 use Rattle.hagerzhang.specs.Meaning.{OfTheStep, not-refused, six, five, seven}

@@ -1,7 +1,7 @@
 -- Demands 1 to 3 of backtracking, together (`backtracking-demands`). Assumes nothing.
 use mathlib.Core.Path.{refl, ap, _∙_}
-use Rattle.outcomes.specs.Refusals.{inOrder, refusedBy}
-use Rattle.outcomes.proofs.Refusals.{by-rows}
+use Rattle.refusals.specs.Refusals.{inOrder, refusedBy}
+use Rattle.refusals.proofs.Refusals.{by-rows}
 use Rattle.backtracking.specs.Backtracking.{startRows}
 use Rattle.demands.specs.Backtracking.{BacktrackingDemands}
 use Rattle.demands.proofs.Tried.{answered}

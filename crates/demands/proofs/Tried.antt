@@ -8,14 +8,14 @@ use lib.Dec.{leb}
 use lib.Ieee.{Float}
 use lib.Ieee.Scale.{finite}
 use Rattle.floats.specs.Arithmetic.{_⊗_}
-use Rattle.outcomes.specs.Refusals.{given, inOrder}
-use Rattle.outcomes.specs.Counters.{counted, evaluations, iterations}
-use Rattle.outcomes.proofs.Apart.{asks-not-ends}
-use Rattle.outcomes.proofs.Branches.{either}
-use Rattle.outcomes.specs.declared.Outcome.the-variants.{Ask, Stop, Limit, Refused}
-use Rattle.outcomes.specs.declared.Refusal.the-variants.{SuppliedNotFinite, StepNotFinite}
-use Rattle.outcomes.specs.declared.Verdict.the-variants.{Met}
-use Rattle.outcomes.specs.declared.Iterations.{Iterations}
+use Rattle.refusals.specs.Refusals.{given, inOrder}
+use Rattle.runs.specs.Counters.{counted, evaluations, iterations}
+use Rattle.runs.proofs.Apart.{asks-not-ends}
+use Rattle.floats.proofs.Branches.{either}
+use Rattle.runs.specs.declared.Outcome.the-variants.{Ask, Stop, Limit, Refused}
+use Rattle.refusals.specs.declared.Refusal.the-variants.{SuppliedNotFinite, StepNotFinite}
+use Rattle.runs.specs.declared.Verdict.the-variants.{Met}
+use Rattle.runs.specs.declared.Iterations.{Iterations}
 use Rattle.conditions.specs.Conditions.{answerFinite, holdsOf}
 use Rattle.backtracking.specs.declared.Setup.{Setup as Trials}
 use Rattle.backtracking.specs.declared.Stage.{Stage as Trying}

@@ -3,10 +3,10 @@
 -- (`untouched-keeps`). Demand 2 shuts it out (`untouched-shut-out`, specs/Demand2.antt). Assumes nothing.
 use mathlib.Core.List.{List, [], _∷_}
 use lib.Ieee.{Float}
-use Rattle.outcomes.specs.Asking.{Reply, reached}
+use Rattle.runs.specs.Asking.{Reply, reached}
 use Rattle.hagerzhang.specs.declared.Search.{Search}
 use Rattle.hagerzhang.specs.Meaning.{report}
-use Rattle.rules.proofs.Demand3.{Holds}
+use Rattle.hagerzhang_rules.proofs.Demand3.{Holds}
 
 pub untouched-keeps : (L : Float) (s : Search) (ys : List Reply) → Holds L (report s)
     → Holds L (report (reached (λ (t : Search) (f g : Float). t) s ys))

@@ -10,11 +10,12 @@ use lib.ListN.{length}
 use lib.Ieee.{Float}
 use lib.Ieee.Scale.{finite}
 use Rattle.floats.specs.Arithmetic.{_⊗_}
-use Rattle.numbers.specs.Results.{value, Row}
-use Rattle.outcomes.specs.Outcomes.{Ending, Told, ends, told}
-use Rattle.outcomes.specs.Asking.{Reply, shown, reported, outcomes, after, reached, played, tallied}
-use Rattle.outcomes.specs.Counters.{counted}
-use Rattle.outcomes.specs.Refusals.{Table, refusedBy, refusalIn}
+use Rattle.refusals.specs.Results.{value, Row}
+use Rattle.runs.specs.Outcomes.{Ending, Told, ends, told}
+use Rattle.runs.specs.Asking.{Reply, shown, reported, outcomes, after, reached, played, tallied}
+use Rattle.runs.specs.Counters.{counted}
+use Rattle.refusals.specs.Refusals.{Table, refusedBy}
+use Rattle.runs.specs.Outcomes.{refusalIn}
 use Rattle.conditions.specs.Conditions.{answerFinite, holdsOf}
 use Rattle.backtracking.specs.declared.Setup.{Setup as Trials}
 use Rattle.backtracking.specs.declared.Stage.{Stage as Trying}

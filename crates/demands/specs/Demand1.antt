@@ -11,11 +11,12 @@ use lib.ListN.{length}
 use lib.Ieee.{Float}
 use lib.Ieee.Scale.{finite}
 use Rattle.floats.specs.Arithmetic.{_<ᶠ_}
-use Rattle.numbers.specs.Results.{value, refused, Row}
-use Rattle.outcomes.specs.Outcomes.{Ending, refusal, Why, numbered, Told, asks, ends, told}
-use Rattle.outcomes.specs.Asking.{Reply}
-use Rattle.outcomes.specs.Counters.{counted}
-use Rattle.outcomes.specs.Refusals.{given, Table, refusedBy, refusalIn}
+use Rattle.refusals.specs.Results.{value, refused, Row}
+use Rattle.runs.specs.Outcomes.{Ending, refusal, Why, numbered, Told, asks, ends, told}
+use Rattle.runs.specs.Asking.{Reply}
+use Rattle.runs.specs.Counters.{counted}
+use Rattle.refusals.specs.Refusals.{given, Table, refusedBy}
+use Rattle.runs.specs.Outcomes.{refusalIn}
 use Rattle.vectors.specs.declared.DotResult.{DotResult}
 use Rattle.vectors.specs.declared.PointResult.{PointResult}
 use Rattle.vectors.specs.Vectors.{dotRows, pointRows}
@@ -28,19 +29,19 @@ use Rattle.curves.specs.declared.Curve.{Curve}
 use Rattle.curves.specs.declared.Known.{Known}
 use Rattle.curves.specs.Curves.{valueOf, slopeOf, curveRows}
 use Rattle.curves.specs.Told.{curveTold, NumberedSaid}
-use Rattle.rules.specs.declared.Point.{Point}
-use Rattle.rules.specs.declared.Came.the-variants.{On}
-use Rattle.rules.specs.declared.Options.{Options}
-use Rattle.rules.specs.declared.Setup.{Setup}
-use Rattle.rules.specs.Parameters.{setupOf, startRows}
-use Rattle.rules.specs.Rules.{answerFinite, middleOf, Last, Report, last}
-use Rattle.rules.specs.Iterations.{standing, had, Asks, Ends}
+use Rattle.hagerzhang_rules.specs.declared.Point.{Point}
+use Rattle.hagerzhang_rules.specs.declared.Came.the-variants.{On}
+use Rattle.hagerzhang_rules.specs.declared.Options.{Options}
+use Rattle.hagerzhang_rules.specs.declared.Setup.{Setup}
+use Rattle.hagerzhang_rules.specs.Parameters.{setupOf, startRows}
+use Rattle.hagerzhang_rules.specs.Rules.{answerFinite, middleOf, Last, Report, last}
+use Rattle.hagerzhang_rules.specs.Iterations.{standing, had, Asks, Ends}
 use Rattle.jobs.specs.declared.Job.{Job}
 use Rattle.jobs.specs.Format.{Field, Holds, meansOf}
 use Rattle.jobs.specs.declared.Reading.{Reading}
 use Rattle.jobs.specs.Reader.{readTold, ReadSaid}
-use Rattle.opening.specs.declared.Opened.{Opened}
-use Rattle.opening.specs.Start.{jobRows, openedTold, BeginSaid}
+use Rattle.jobs.specs.declared.Opened.{Opened}
+use Rattle.jobs.specs.Opening.{jobRows, openedTold, BeginSaid}
 use Rattle.hagerzhang.specs.declared.Started.{Started}
 use Rattle.hagerzhang.specs.declared.Search.{Search}
 use Rattle.hagerzhang.specs.declared.Step.{Step}

@@ -9,18 +9,18 @@ use mathlib.Core.Bool.{true, false}
 use mathlib.Core.List.{List}
 use mathlib.Core.Option.{some}
 use lib.Ieee.{Float, isNan}
-use Rattle.numbers.specs.Results.{value}
-use Rattle.outcomes.specs.declared.Refusal.{Refusal}
-use Rattle.outcomes.specs.Outcomes.{refusal, unreachable, told}
-use Rattle.outcomes.specs.Asking.{Search as Rest, over, Reply, shown, reported, awaits, outcomes, after}
-use Rattle.outcomes.specs.Refusals.{refusalIn}
-use Rattle.rules.specs.declared.Options.{Options}
-use Rattle.rules.specs.Parameters.{setupOf}
-use Rattle.rules.specs.Rules.{answerFinite, Report, search}
-use Rattle.rules.specs.Iterations.{reportFinite}
+use Rattle.refusals.specs.Results.{value}
+use Rattle.refusals.specs.declared.Refusal.{Refusal}
+use Rattle.runs.specs.Outcomes.{refusal, unreachable, told}
+use Rattle.runs.specs.Asking.{Search as Rest, over, Reply, shown, reported, awaits, outcomes, after}
+use Rattle.runs.specs.Outcomes.{refusalIn}
+use Rattle.hagerzhang_rules.specs.declared.Options.{Options}
+use Rattle.hagerzhang_rules.specs.Parameters.{setupOf}
+use Rattle.hagerzhang_rules.specs.Rules.{answerFinite, Report, search}
+use Rattle.hagerzhang_rules.specs.Iterations.{reportFinite}
 use Rattle.curves.specs.declared.Curve.{Curve}
-use Rattle.opening.specs.declared.Opened.the-variants.{Begun}
-use Rattle.opening.specs.Start.{BeginSaid}
+use Rattle.jobs.specs.declared.Opened.the-variants.{Begun}
+use Rattle.jobs.specs.Opening.{BeginSaid}
 use Rattle.hagerzhang.specs.declared.Search.{Search}
 use Rattle.hagerzhang.specs.declared.Step.{Step}
 use Rattle.hagerzhang.specs.declared.Started.the-variants.{NoSearch}

@@ -7,29 +7,20 @@ use mathlib.Core.Bool.{true}
 use mathlib.Core.List.{List, _∷_}
 use lib.ListN.{length}
 use lib.Ieee.{Float}
-use Rattle.numbers.specs.Results.{value}
-use Rattle.outcomes.specs.Outcomes.{limit, ends}
-use Rattle.outcomes.specs.Asking.{Reply}
-use Rattle.rules.specs.declared.Point.{Point}
-use Rattle.rules.specs.declared.Options.{Options}
-use Rattle.rules.specs.declared.Setup.{Setup}
-use Rattle.rules.specs.Parameters.{setupOf}
-use Rattle.rules.specs.Rules.{point, Last, Report, last, iterationsIn}
-use Rattle.rules.specs.Iterations.{Premise, Bracketed, Within, Finished, Moves}
+use Rattle.refusals.specs.Results.{value}
+use Rattle.runs.specs.Outcomes.{limit, ends}
+use Rattle.runs.specs.Asking.{Reply}
+use Rattle.hagerzhang_rules.specs.declared.Point.{Point}
+use Rattle.hagerzhang_rules.specs.declared.Options.{Options}
+use Rattle.hagerzhang_rules.specs.declared.Setup.{Setup}
+use Rattle.hagerzhang_rules.specs.Parameters.{setupOf}
+use Rattle.hagerzhang_rules.specs.Rules.{point, Last, Report, last, iterationsIn}
+use Rattle.hagerzhang_rules.specs.Iterations.{Premise, Bracketed, Within, Finished, Moves}
 use Rattle.hagerzhang.specs.declared.Search.{Search}
 use Rattle.hagerzhang.specs.declared.Step.{Step}
 use Rattle.hagerzhang.specs.Machine.{startOf}
 use Rattle.hagerzhang.specs.Meaning.{report, isOver}
-use Rattle.demands.specs.Runs.{
-  reachedBy,
-  toldAt,
-  one-more,
-  finiteBy,
-  notFiniteBy,
-  askedBy,
-  askedAt,
-  finishedBy,
-}
+use Rattle.demands.specs.Runs.{reachedBy, toldAt, one-more, finiteBy, notFiniteBy, askedBy, askedAt, finishedBy}
 
 -- a search ended at its n-th iteration, with the best step x
 pub record AtLimit (n : ℕ) (x : Float) (held : Report) : Type 0 where

@@ -10,21 +10,21 @@ use lib.Ieee.{Float}
 use Rattle.text.specs.Text.{Writes}
 use Rattle.vectors.specs.declared.PointResult.{PointResult}
 use Rattle.vectors.specs.Told.{DotSaid, PointSaid}
-use Rattle.outcomes.specs.declared.Outcome.{Outcome}
-use Rattle.outcomes.specs.Outcomes.{told}
+use Rattle.runs.specs.declared.Outcome.{Outcome}
+use Rattle.runs.specs.Outcomes.{told}
 use Rattle.conditions.specs.declared.Condition.{Condition}
 use Rattle.conditions.specs.Told.{CheckedSaid}
 use Rattle.curves.specs.declared.Curve.{Curve}
 use Rattle.curves.specs.Told.{NumberedSaid}
 use Rattle.jobs.specs.Reader.{ReadSaid}
-use Rattle.opening.specs.Start.{BeginSaid}
+use Rattle.jobs.specs.Opening.{BeginSaid}
 use Rattle.play.specs.declared.Played.{Played}
 use Rattle.play.specs.declared.Written.{Written}
 use Rattle.play.specs.Playing.{PlaySaid}
 use Rattle.backtracking.specs.declared.Setup.{Setup as Trials}
 use Rattle.backtracking.specs.declared.Backtracking.{Backtracking}
 use Rattle.backtracking.specs.Machine as trials
-use Rattle.rules.specs.declared.Options.{Options}
+use Rattle.hagerzhang_rules.specs.declared.Options.{Options}
 use Rattle.hagerzhang.specs.declared.Search.{Search}
 use Rattle.hagerzhang.specs.Machine.{StartSaid, AnswerSaid}
 

@@ -6,11 +6,11 @@ use mathlib.Core.List.{List, [], _∷_, _++_}
 use mathlib.Core.Option.{Option, some, none}
 use lib.Dec.{ltb}
 use lib.Ieee.{Float}
-use Rattle.outcomes.specs.Outcomes.{Told, told}
-use Rattle.outcomes.specs.Asking.{Reply, reached, played, tallied}
-use Rattle.rules.specs.declared.Point.{Point}
-use Rattle.rules.specs.Rules.{point, answerFinite, iterationsIn}
-use Rattle.rules.specs.Iterations.{progress}
+use Rattle.runs.specs.Outcomes.{Told, told}
+use Rattle.runs.specs.Asking.{Reply, reached, played, tallied}
+use Rattle.hagerzhang_rules.specs.declared.Point.{Point}
+use Rattle.hagerzhang_rules.specs.Rules.{point, answerFinite, iterationsIn}
+use Rattle.hagerzhang_rules.specs.Iterations.{progress}
 use Rattle.hagerzhang.specs.declared.Search.{Search}
 use Rattle.hagerzhang.specs.Machine.{dueIn, answerOf}
 use Rattle.hagerzhang.specs.Meaning.{report, isOver, dueTold}

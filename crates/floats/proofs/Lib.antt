@@ -1,3 +1,5 @@
+pub mod Branches
+pub mod Determined
 pub mod Tests
 pub mod Signed
 pub mod Compare

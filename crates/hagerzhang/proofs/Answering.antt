@@ -7,19 +7,19 @@ use lib.Dec.{eqb}
 use lib.Ieee.{Float}
 use lib.Ieee.Scale.{finite}
 use Rattle.floats.specs.Arithmetic.{_<ᶠ_}
-use Rattle.outcomes.specs.Outcomes.{asks, told}
-use Rattle.outcomes.specs.Refusals.{refusalIn}
-use Rattle.outcomes.specs.declared.Outcome.{Outcome}
-use Rattle.outcomes.specs.declared.Outcome.the-variants.{Ask}
-use Rattle.outcomes.proofs.Apart.{asks-not-ends}
-use Rattle.outcomes.specs.Asking.{reported, awaits}
-use Rattle.outcomes.specs.Counters.{counted}
-use Rattle.outcomes.proofs.Branches.{either, by-test}
-use Rattle.rules.specs.declared.Setup.{Setup}
-use Rattle.rules.specs.declared.Point.{Point}
-use Rattle.rules.specs.declared.Bracket.{Bracket}
-use Rattle.rules.specs.Rules.{answerFinite, middleOf}
-use Rattle.rules.proofs.StaysBracket.{if-so}
+use Rattle.runs.specs.Outcomes.{asks, told}
+use Rattle.runs.specs.Outcomes.{refusalIn}
+use Rattle.runs.specs.declared.Outcome.{Outcome}
+use Rattle.runs.specs.declared.Outcome.the-variants.{Ask}
+use Rattle.runs.proofs.Apart.{asks-not-ends}
+use Rattle.runs.specs.Asking.{reported, awaits}
+use Rattle.runs.specs.Counters.{counted}
+use Rattle.floats.proofs.Branches.{either, by-test}
+use Rattle.hagerzhang_rules.specs.declared.Setup.{Setup}
+use Rattle.hagerzhang_rules.specs.declared.Point.{Point}
+use Rattle.hagerzhang_rules.specs.declared.Bracket.{Bracket}
+use Rattle.hagerzhang_rules.specs.Rules.{answerFinite, middleOf}
+use Rattle.hagerzhang_rules.proofs.StaysBracket.{if-so}
 use Rattle.hagerzhang.specs.declared.Finished.{Finished}
 use Rattle.hagerzhang.specs.declared.Trial.{Trial}
 use Rattle.hagerzhang.specs.declared.Ends.{Ends}
@@ -37,32 +37,8 @@ use Rattle.hagerzhang.specs.declared.Stage.{Stage}
 use Rattle.hagerzhang.specs.declared.Stage.the-variants.{Open, Over}
 use Rattle.hagerzhang.specs.declared.Search.{Search}
 use Rattle.hagerzhang.specs.declared.Step.{Step}
-use Rattle.hagerzhang.specs.Machine.{
-  attemptOf,
-  probeOf,
-  testedOf,
-  madeBy,
-  madeOf,
-  wentOf,
-  reactOf,
-  keptAt,
-  keptIn,
-  dueAt,
-  dueIn,
-  takenOf,
-  answerBy,
-}
-use Rattle.hagerzhang.specs.Meaning.{
-  keptReport,
-  dueTold,
-  OfTheStep,
-  not-refused,
-  six,
-  five,
-  seven,
-  meaning,
-  meant,
-}
+use Rattle.hagerzhang.specs.Machine.{attemptOf, probeOf, testedOf, madeBy, madeOf, wentOf, reactOf, keptAt, keptIn, dueAt, dueIn, takenOf, answerBy}
+use Rattle.hagerzhang.specs.Meaning.{keptReport, dueTold, OfTheStep, not-refused, six, five, seven, meaning, meant}
 
 pub setup-kept : (b : Search) (f g : Float) (stage : Stage) → answerBy b f g stage .search .setup ≡ b .setup
 unfolding answerBy takenOf

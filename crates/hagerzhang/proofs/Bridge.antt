@@ -10,26 +10,26 @@ use lib.Ieee.{Float, isNan}
 use lib.Ieee.Scale.{finite}
 use borrow.Author.Tests.{leb-true, leb-false, ne-eqb}
 use Rattle.floats.specs.Arithmetic.{_<ᶠ_}
-use Rattle.numbers.specs.Results.{Result, value, refused}
-use Rattle.outcomes.specs.Outcomes.{limit, refusal, Told, ends, told}
-use Rattle.outcomes.specs.Asking.{Search as Rest, over, keeping, respond, shown, firstOf, onceTold}
-use Rattle.outcomes.specs.Counters.{counted, evaluations, iterations}
-use Rattle.outcomes.proofs.Machines.{Seen, seen, picks, picks-by, counts-on}
-use Rattle.outcomes.proofs.Refusals.{alike}
-use Rattle.outcomes.specs.declared.Evaluations.{Evaluations}
-use Rattle.outcomes.proofs.Branches.{and-first, and-second}
+use Rattle.refusals.specs.Results.{Result, value, refused}
+use Rattle.runs.specs.Outcomes.{limit, refusal, Told, ends, told}
+use Rattle.runs.specs.Asking.{Search as Rest, over, keeping, respond, shown, firstOf, onceTold}
+use Rattle.runs.specs.Counters.{counted, evaluations, iterations}
+use Rattle.runs.proofs.Machines.{Seen, seen, picks, picks-by, counts-on}
+use Rattle.refusals.proofs.Refusals.{alike}
+use Rattle.runs.specs.declared.Evaluations.{Evaluations}
+use Rattle.floats.proofs.Branches.{and-first, and-second}
 use Rattle.hagerzhang.specs.declared.Asked.{Asked}
 use Rattle.hagerzhang.specs.declared.Asked.the-variants.{Update, Between}
-use Rattle.rules.specs.declared.Point.{Point}
-use Rattle.rules.specs.declared.Bracket.{Bracket}
-use Rattle.rules.specs.declared.Options.{Options}
-use Rattle.rules.specs.declared.Setup.{Setup}
-use Rattle.rules.specs.declared.Came.{Came}
-use Rattle.rules.specs.declared.Came.the-variants.{To, On}
-use Rattle.rules.specs.declared.Further.{Further}
-use Rattle.rules.specs.declared.Further.the-variants.{Nothing, At}
-use Rattle.rules.specs.declared.Judged.{Judged}
-use Rattle.rules.specs.declared.Judged.the-variants.{Holds, Fails}
+use Rattle.hagerzhang_rules.specs.declared.Point.{Point}
+use Rattle.hagerzhang_rules.specs.declared.Bracket.{Bracket}
+use Rattle.hagerzhang_rules.specs.declared.Options.{Options}
+use Rattle.hagerzhang_rules.specs.declared.Setup.{Setup}
+use Rattle.hagerzhang_rules.specs.declared.Came.{Came}
+use Rattle.hagerzhang_rules.specs.declared.Came.the-variants.{To, On}
+use Rattle.hagerzhang_rules.specs.declared.Further.{Further}
+use Rattle.hagerzhang_rules.specs.declared.Further.the-variants.{Nothing, At}
+use Rattle.hagerzhang_rules.specs.declared.Judged.{Judged}
+use Rattle.hagerzhang_rules.specs.declared.Judged.the-variants.{Holds, Fails}
 use Rattle.hagerzhang.specs.declared.Finished.{Finished}
 use Rattle.hagerzhang.specs.declared.Rule.{Rule}
 use Rattle.hagerzhang.specs.declared.Rule.the-variants.{S1 as ByS1, S4 as ByS4, L2 as ByL2}
@@ -48,79 +48,11 @@ use Rattle.hagerzhang.specs.declared.Search.{Search}
 use Rattle.hagerzhang.specs.declared.Step.{Step}
 use Rattle.hagerzhang.specs.declared.Started.{Started}
 use Rattle.hagerzhang.specs.declared.Started.the-variants.{Began, NoSearch}
-use Rattle.rules.specs.Parameters.{setupOf, startRows}
-use Rattle.rules.specs.Rules.{
-  point,
-  answerFinite,
-  middleOf,
-  secantOf,
-  S4,
-  L2,
-  bestOf,
-  judgedOf,
-  trial,
-  between,
-  U3,
-  updating,
-  update,
-  further,
-  afterS4,
-  afterS1,
-  iteration,
-  Report,
-  reportOf,
-  decided,
-  verdict,
-  rounds,
-  askStart,
-  askHigh,
-  search,
-}
-use Rattle.bracketing.proofs.Decides.{decides}
-use Rattle.hagerzhang.specs.Machine.{
-  tryAt,
-  finishedOf,
-  comesOf,
-  leftOf,
-  attemptOf,
-  probeOf,
-  testedOf,
-  madeBy,
-  triedBy,
-  afterS4Of,
-  afterS1Of,
-  followBy,
-  onwardOf,
-  outlookBy,
-  madeOf,
-  settledOf,
-  wentOf,
-  runningOf,
-  reactOf,
-  keptOf,
-  stepAsked,
-  stepOf,
-  takenOf,
-  answerBy,
-  answerOf,
-  fresh,
-  startOf,
-  StartSaid,
-  AnswerSaid,
-}
-use Rattle.hagerzhang.specs.Meaning.{
-  lastOf,
-  keptReport,
-  ended,
-  afterTrial,
-  onAsked,
-  onAnswer,
-  meaning,
-  meant,
-  begun,
-  Starts,
-  Follows,
-}
+use Rattle.hagerzhang_rules.specs.Parameters.{setupOf, startRows}
+use Rattle.hagerzhang_rules.specs.Rules.{point, answerFinite, middleOf, secantOf, S4, L2, bestOf, judgedOf, trial, between, U3, updating, update, further, afterS4, afterS1, iteration, Report, reportOf, decided, verdict, rounds, askStart, askHigh, search}
+use Rattle.hagerzhang_decisions.proofs.Decides.{decides}
+use Rattle.hagerzhang.specs.Machine.{tryAt, finishedOf, comesOf, leftOf, attemptOf, probeOf, testedOf, madeBy, triedBy, afterS4Of, afterS1Of, followBy, onwardOf, outlookBy, madeOf, settledOf, wentOf, runningOf, reactOf, keptOf, stepAsked, stepOf, takenOf, answerBy, answerOf, fresh, startOf, StartSaid, AnswerSaid}
+use Rattle.hagerzhang.specs.Meaning.{lastOf, keptReport, ended, afterTrial, onAsked, onAnswer, meaning, meant, begun, Starts, Follows}
 
 denote : Setup → Next → Seen Report
 denote s n = (meaning s (n .stage), told (n .outcome))

@@ -9,31 +9,25 @@ use lib.Dec.{leb, eqb}
 use lib.Ieee.{Float}
 use lib.Ieee.Scale.{finite}
 use Rattle.floats.specs.Arithmetic.{_<ᶠ_}
-use Rattle.numbers.specs.Results.{Result, value, refused, refuse_else_}
-use Rattle.outcomes.specs.Outcomes.{numberOf}
-use Rattle.outcomes.specs.declared.Evaluations.{Evaluations}
-use Rattle.outcomes.specs.declared.Iterations.{Iterations}
-use Rattle.outcomes.specs.declared.Outcome.{Outcome}
-use Rattle.outcomes.specs.declared.Outcome.the-variants.{Ask, Stop, Limit, Refused}
-use Rattle.outcomes.specs.declared.Refusal.{Refusal}
-use Rattle.outcomes.specs.declared.Refusal.the-variants.{
-  SuppliedNotFinite,
-  StepNotFinite,
-  BudgetSpent,
-  StepNotBetween,
-  AlreadyOver,
-}
-use Rattle.outcomes.specs.Counters.{counted, evaluations, iterations}
-use Rattle.rules.specs.declared.Point.{Point}
-use Rattle.rules.specs.declared.Bracket.{Bracket}
-use Rattle.rules.specs.declared.Options.{Options}
-use Rattle.rules.specs.declared.Setup.{Setup}
-use Rattle.rules.specs.declared.Came.{Came}
-use Rattle.rules.specs.declared.Came.the-variants.{To, On}
-use Rattle.rules.specs.declared.Further.{Further}
-use Rattle.rules.specs.declared.Further.the-variants.{Nothing, At}
-use Rattle.rules.specs.declared.Judged.{Judged}
-use Rattle.rules.specs.declared.Judged.the-variants.{Holds, Fails}
+use Rattle.refusals.specs.Results.{Result, value, refused, refuse_else_}
+use Rattle.refusals.specs.Refusals.{numberOf}
+use Rattle.runs.specs.declared.Evaluations.{Evaluations}
+use Rattle.runs.specs.declared.Iterations.{Iterations}
+use Rattle.runs.specs.declared.Outcome.{Outcome}
+use Rattle.runs.specs.declared.Outcome.the-variants.{Ask, Stop, Limit, Refused}
+use Rattle.refusals.specs.declared.Refusal.{Refusal}
+use Rattle.refusals.specs.declared.Refusal.the-variants.{SuppliedNotFinite, StepNotFinite, BudgetSpent, StepNotBetween, AlreadyOver}
+use Rattle.runs.specs.Counters.{counted, evaluations, iterations}
+use Rattle.hagerzhang_rules.specs.declared.Point.{Point}
+use Rattle.hagerzhang_rules.specs.declared.Bracket.{Bracket}
+use Rattle.hagerzhang_rules.specs.declared.Options.{Options}
+use Rattle.hagerzhang_rules.specs.declared.Setup.{Setup}
+use Rattle.hagerzhang_rules.specs.declared.Came.{Came}
+use Rattle.hagerzhang_rules.specs.declared.Came.the-variants.{To, On}
+use Rattle.hagerzhang_rules.specs.declared.Further.{Further}
+use Rattle.hagerzhang_rules.specs.declared.Further.the-variants.{Nothing, At}
+use Rattle.hagerzhang_rules.specs.declared.Judged.{Judged}
+use Rattle.hagerzhang_rules.specs.declared.Judged.the-variants.{Holds, Fails}
 use Rattle.hagerzhang.specs.declared.Finished.{Finished}
 use Rattle.hagerzhang.specs.declared.Kept.{Kept}
 use Rattle.hagerzhang.specs.declared.Kept.the-variants.{NoneYet, Last}
@@ -60,9 +54,9 @@ use Rattle.hagerzhang.specs.declared.Search.{Search}
 use Rattle.hagerzhang.specs.declared.Step.{Step}
 use Rattle.hagerzhang.specs.declared.Started.{Started}
 use Rattle.hagerzhang.specs.declared.Started.the-variants.{Began, NoSearch}
-use Rattle.rules.specs.Parameters.{setupOf, startRows}
-use Rattle.rules.specs.Rules.{point, bracket, answerFinite, middleOf, narrowedOf, secantOf, S4, L2, bestOf, judgedOf}
-use Rattle.bracketing.specs.Decisions.{updatedOf}
+use Rattle.hagerzhang_rules.specs.Parameters.{setupOf, startRows}
+use Rattle.hagerzhang_rules.specs.Rules.{point, bracket, answerFinite, middleOf, narrowedOf, secantOf, S4, L2, bestOf, judgedOf}
+use Rattle.hagerzhang_decisions.specs.Decisions.{updatedOf}
 
 -- ---- what is asked, and how a search ends
 

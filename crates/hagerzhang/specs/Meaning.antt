@@ -5,13 +5,14 @@ use mathlib.Core.Path.{_≡_}
 use mathlib.Core.Bool.{Bool, true, false}
 use lib.Ieee.{Float}
 use mathlib.Core.Option.{Option, some, none}
-use Rattle.numbers.specs.Results.{Result, value, refused, refuse_else_}
-use Rattle.outcomes.specs.Outcomes.{refusal, Told, ends, alreadyOver, numberOf, told}
-use Rattle.outcomes.specs.Asking.{Search as Rest, over, keeping, question, respond, shown, firstOf, onceTold}
-use Rattle.outcomes.specs.Counters.{counted}
-use Rattle.rules.specs.declared.Bracket.{Bracket}
-use Rattle.rules.specs.declared.Options.{Options}
-use Rattle.rules.specs.declared.Setup.{Setup}
+use Rattle.refusals.specs.Results.{Result, value, refused, refuse_else_}
+use Rattle.runs.specs.Outcomes.{refusal, Told, ends, alreadyOver, told}
+use Rattle.refusals.specs.Refusals.{numberOf}
+use Rattle.runs.specs.Asking.{Search as Rest, over, keeping, question, respond, shown, firstOf, onceTold}
+use Rattle.runs.specs.Counters.{counted}
+use Rattle.hagerzhang_rules.specs.declared.Bracket.{Bracket}
+use Rattle.hagerzhang_rules.specs.declared.Options.{Options}
+use Rattle.hagerzhang_rules.specs.declared.Setup.{Setup}
 use Rattle.hagerzhang.specs.declared.Finished.{Finished}
 use Rattle.hagerzhang.specs.declared.Kept.{Kept}
 use Rattle.hagerzhang.specs.declared.Kept.the-variants.{NoneYet, Last}
@@ -30,23 +31,8 @@ use Rattle.hagerzhang.specs.declared.Search.{Search}
 use Rattle.hagerzhang.specs.declared.Step.{Step}
 use Rattle.hagerzhang.specs.declared.Started.{Started}
 use Rattle.hagerzhang.specs.declared.Started.the-variants.{Began, NoSearch}
-use Rattle.rules.specs.Parameters.{setupOf, startRows}
-use Rattle.rules.specs.Rules.{
-  point,
-  answerFinite,
-  narrowedOf,
-  Report,
-  noneYet,
-  last,
-  U3,
-  update,
-  afterS1,
-  afterS4,
-  rounds,
-  askStart,
-  askHigh,
-  search,
-}
+use Rattle.hagerzhang_rules.specs.Parameters.{setupOf, startRows}
+use Rattle.hagerzhang_rules.specs.Rules.{point, answerFinite, narrowedOf, Report, noneYet, last, U3, update, afterS1, afterS4, rounds, askStart, askHigh, search}
 use Rattle.hagerzhang.specs.Machine.{keptOf, keptIn, stepOf}
 
 -- ---- what a state reports

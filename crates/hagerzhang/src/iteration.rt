@@ -8,11 +8,12 @@ use super::Rule;
 use super::Then;
 use super::Trial;
 use super::moves;
-use rules::Bracket;
-use rules::Came;
-use rules::Further;
-use rules::Point;
-use rules::Setup;
+use hagerzhang_decisions::bracketing;
+use hagerzhang_rules::Bracket;
+use hagerzhang_rules::Came;
+use hagerzhang_rules::Further;
+use hagerzhang_rules::Point;
+use hagerzhang_rules::Setup;
 ghost use mathlib.Core.Path.{_≡_};
 ghost use Rattle.hagerzhang.specs.Machine.{comesOf, leftOf, afterS4Of, afterS1Of, followOf, onwardOf, runningOf};
 

@@ -2,36 +2,23 @@
 // or goes on in U3 (Came), something follows in the iteration (Then), the search moves (Move), and one place writes the
 // next state.
 
-use outcomes::Evaluations;
-use outcomes::Iterations;
-use outcomes::Outcome;
-use outcomes::Refusal;
-use outcomes::Verdict;
-use rules::Bracket;
-use rules::Options;
-use rules::Point;
-use rules::Setup;
+use hagerzhang_decisions::parameters;
+use hagerzhang_rules::Bracket;
+use hagerzhang_rules::Options;
+use hagerzhang_rules::Point;
+use hagerzhang_rules::Setup;
+use refusals::Refusal;
+use runs::Evaluations;
+use runs::Iterations;
+use runs::Outcome;
+use runs::Verdict;
 ghost use mathlib.Core.Path.{_≡_};
 ghost use mathlib.Core.Bool.{false};
 ghost use lib.Ieee.{isNan};
-ghost use Rattle.outcomes.specs.Asking.{reported, awaits};
-ghost use Rattle.outcomes.specs.Counters.{iterations};
-ghost use Rattle.rules.specs.Rules.{iterationsIn};
-ghost use Rattle.hagerzhang.specs.Machine.{
-  fresh,
-  StartSaid,
-  AnswerSaid,
-  asking,
-  ending,
-  stepTo,
-  reactOf,
-  keptOf,
-  keptIn,
-  stepAsked,
-  stepOf,
-  dueIn,
-  takenOf,
-};
+ghost use Rattle.runs.specs.Asking.{reported, awaits};
+ghost use Rattle.runs.specs.Counters.{iterations};
+ghost use Rattle.hagerzhang_rules.specs.Rules.{iterationsIn};
+ghost use Rattle.hagerzhang.specs.Machine.{fresh, StartSaid, AnswerSaid, asking, ending, stepTo, reactOf, keptOf, keptIn, stepAsked, stepOf, dueIn, takenOf};
 ghost use Rattle.hagerzhang.specs.Meaning.{keptReport, dueTold, meant, Starts, Follows};
 
 mod iteration; // the way of an answer in an iteration, up to a move or its end

@@ -11,24 +11,17 @@ use super::Trial;
 use super::Waiting;
 use super::asks;
 use super::over;
-use outcomes::Iterations;
-use outcomes::Outcome;
-use outcomes::Refusal;
-use rules::Bracket;
-use rules::Judged;
-use rules::Point;
-use rules::Setup;
+use hagerzhang_decisions::bracketing;
+use hagerzhang_decisions::verdicts;
+use hagerzhang_rules::Bracket;
+use hagerzhang_rules::Judged;
+use hagerzhang_rules::Point;
+use hagerzhang_rules::Setup;
+use refusals::Refusal;
+use runs::Iterations;
+use runs::Outcome;
 ghost use mathlib.Core.Path.{_≡_};
-ghost use Rattle.hagerzhang.specs.Machine.{
-  tryAt,
-  settledOf,
-  outlookOf,
-  madeOf,
-  testedOf,
-  attemptOf,
-  probeOf,
-  refusedBy,
-};
+ghost use Rattle.hagerzhang.specs.Machine.{tryAt, settledOf, outlookOf, madeOf, testedOf, attemptOf, probeOf, refusedBy};
 
 // (3) The start or an iteration is finished: L3, best, and what is due then.
 pub(crate) fn settled(s: Setup, bracket: Bracket, start: Point, iterations: Iterations) -> Next

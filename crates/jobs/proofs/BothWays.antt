@@ -12,9 +12,9 @@ use lib.Dec.{leb, eqb}
 use lib.ListN.{length, take, drop, length-append, length-drop, take-append-drop}
 use lib.Seq.{take-append-seam, drop-append-seam, drop-drop, length-take-le}
 use borrow.Author.Tests.{le-leb, lt-leb, eq-eqb, ne-eqb, leb-true, eqb-true, eqb-false}
-use Rattle.outcomes.proofs.Branches.{and-first, and-second}
-use Rattle.numbers.specs.Results.{Result, value, refused}
-use Rattle.rules.specs.declared.Options.{Options}
+use Rattle.floats.proofs.Branches.{and-first, and-second}
+use Rattle.refusals.specs.Results.{Result, value, refused}
+use Rattle.hagerzhang_rules.specs.declared.Options.{Options}
 use Rattle.wire.specs.Wire.{byteAt, pairOf}
 use Rattle.jobs.specs.declared.Job.{Job}
 use Rattle.jobs.specs.Format.{Field, written, sizeOf, Holds, nothing, field, bodyOf, optionsOf, decoded, meansOf}

@@ -2,8 +2,8 @@
 use mathlib.Core.Path.{_≡_, refl, sym, _∙_}
 use mathlib.Core.List.{List}
 use Prim.Native.Nat.{ℕ}
-use Rattle.numbers.specs.Results.{Result, value, refused}
-use Rattle.numbers.proofs.Determined.{determined}
+use Rattle.refusals.specs.Results.{Result, value, refused}
+use Rattle.floats.proofs.Determined.{determined}
 use Rattle.jobs.specs.declared.Job.{Job}
 use Rattle.jobs.specs.declared.Reading.{Reading}
 use Rattle.jobs.specs.declared.Reading.the-variants.{Whole, Malformed}

@@ -7,8 +7,8 @@ use native.Mathlib.Omega.{arith}
 use lib.Dec.{eqb}
 use lib.ListN.{length, take, drop, length-drop}
 use borrow.Author.Tests.{eq-eqb, ne-eqb}
-use Rattle.numbers.specs.Results.{Result, value, refused}
-use Rattle.rules.specs.declared.Options.{Options}
+use Rattle.refusals.specs.Results.{Result, value, refused}
+use Rattle.hagerzhang_rules.specs.declared.Options.{Options}
 use Rattle.wire.specs.Wire.{byteAt}
 use Rattle.jobs.specs.declared.Job.{Job}
 use Rattle.jobs.specs.Format.{decoded}

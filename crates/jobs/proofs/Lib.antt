@@ -2,3 +2,7 @@ pub mod Parts
 pub mod InOrder
 pub mod BothWays
 pub mod Determined
+pub mod AtZero
+pub mod Refusals
+pub mod Begins
+pub mod OpenedDetermined

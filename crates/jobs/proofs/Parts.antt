@@ -8,7 +8,7 @@ use lib.Dec.{eqb}
 use lib.ListN.{length, take, drop, getD, length-drop}
 use lib.Seq.{getD-drop, getD-take, drop-drop, take-nil, drop-nil}
 use borrow.Author.Tests.{le-leb, lt-leb, leb-true}
-use Rattle.outcomes.proofs.Branches.{and-first}
+use Rattle.floats.proofs.Branches.{and-first}
 use lib.Ieee.{Float}
 use Rattle.wire.specs.Wire.{pairOf, floatOf}
 use Rattle.jobs.specs.Format.{floatIn, said}

@@ -7,10 +7,10 @@ use mathlib.Core.Option.{Option, some, none}
 use lib.Dec.{eqb}
 use lib.ListN.{length, drop}
 use lib.Ieee.{Float}
-use Rattle.numbers.specs.Results.{Result, value, refused}
+use Rattle.refusals.specs.Results.{Result, value, refused}
 use Rattle.wire.specs.Wire.{byteAt, pairOf, floatOf}
-use Rattle.rules.specs.declared.Options.{Options}
-use Rattle.rules.specs.Parameters.{defaultOptions}
+use Rattle.hagerzhang_rules.specs.declared.Options.{Options}
+use Rattle.hagerzhang_rules.specs.Parameters.{defaultOptions}
 use Rattle.jobs.specs.declared.Job.{Job}
 
 -- "A job is tagged fields: one-byte tag, two-byte length, body, most significant byte first"

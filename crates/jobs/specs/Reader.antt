@@ -7,8 +7,8 @@ use mathlib.Core.List.{List}
 use mathlib.Core.Option.{Option, some, none}
 use lib.Dec.{leb, eqb}
 use lib.ListN.{length, take, drop}
-use Rattle.numbers.specs.Results.{Result, value, refused}
-use Rattle.rules.specs.declared.Options.{Options}
+use Rattle.refusals.specs.Results.{Result, value, refused}
+use Rattle.hagerzhang_rules.specs.declared.Options.{Options}
 use Rattle.wire.specs.Wire.{byteAt, pairOf}
 use Rattle.jobs.specs.declared.Job.{Job}
 use Rattle.jobs.specs.declared.Reading.{Reading}

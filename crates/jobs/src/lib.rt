@@ -1,13 +1,24 @@
-// 01's jobs: tagged fields in bytes, read as the parameters of a search over one of the sample curves.
+// 01's jobs: tagged fields in bytes, read as the parameters of a search over one of the sample curves; and the search of
+// a job, by 01's refusals 9, 2, 3 and 4 over the whole job, in that order.
 
-use rules::Options;
-use rules::Params;
+use curves::Curve;
+use curves::Known;
+use hagerzhang::Started;
+use hagerzhang::Step;
+use hagerzhang_decisions::parameters;
+use hagerzhang_rules::Options;
+use hagerzhang_rules::Params;
+use refusals::Refusal;
 ghost use mathlib.Core.Path.{_≡_};
 ghost use Prim.Native.Nat.{_≤_};
 ghost use lib.ListN.{length, drop};
 ghost use Rattle.wire.specs.Wire.{pairOf};
 ghost use Rattle.jobs.specs.Format.{floatIn, said};
+ghost use Rattle.refusals.specs.Results.{value};
+ghost use Rattle.jobs.specs.Opening.{overCurve, beginsBy, openedTold, BeginSaid};
 ghost use Rattle.jobs.specs.Reader.{begins, found, behind, optionsAt, ReadSaid};
+
+// ---- a job, read from bytes
 
 pub struct Job {
     // the curve's number, as the job has it
@@ -132,4 +143,50 @@ pub fn read(job: &[u8]) -> Reading
         curve: wire::byte(&job[3..4], 0) as u32,
         options: options(job, bounds, start, epsilon, budget, limit),
     })
+}
+
+// ---- the search of a job
+
+// What a job begins: a search over a curve, which has asked its first step; or none.
+pub enum Opened {
+    Begun(Curve, Step),
+    // 2, 3 or 4
+    NoSearch(Refusal),
+    // 9
+    Unreadable,
+}
+
+// A start at the curve's cost and slope at 0.
+fn search_over(c: Curve, o: Options) -> Opened
+    ensures { λ r. ⌜ openedTold r ≡ overCurve c o ⌝ }
+{
+    match hagerzhang::start(o, c.value(0.0), c.slope(0.0)) {
+        Started::Began(t) => Opened::Begun(c, t),
+        Started::NoSearch(k) => Opened::NoSearch(k),
+    }
+}
+
+// Any number that is not finite (2) comes before the curve's number and the ranges (3), and these before epsilon_k and
+// L (4).
+fn start(j: Job) -> Opened
+    ensures { λ r. ⌜ openedTold r ≡ beginsBy (value j) ⌝ }
+{
+    let o = j.options;
+    if !parameters::params_finite(o.params) {
+        return Opened::NoSearch(Refusal::SuppliedNotFinite);
+    }
+    match curves::numbered(j.curve) {
+        Known::Found(c) => search_over(c, o),
+        Known::Unknown(k) => Opened::NoSearch(k),
+    }
+}
+
+// The search of a job, for any bytes.
+pub fn begin(job: &[u8]) -> Opened
+    ensures { λ r. ⌜ BeginSaid (now (job .entry)) r ⌝ }
+{
+    match read(job) {
+        Reading::Whole(j) => start(j),
+        Reading::Malformed => Opened::Unreadable,
+    }
 }

@@ -2,7 +2,7 @@
 use mathlib.Core.Path.{_≡_, refl}
 use lib.Ieee.{Float, binary64, ofBits, toBits}
 use Rattle.text.specs.Text.{bytes, decimalUpTo}
-use Rattle.outcomes.specs.Outcomes.{met, wolfe, approximate, stop, limit, refusal, asks, ends}
+use Rattle.runs.specs.Outcomes.{met, wolfe, approximate, stop, limit, refusal, asks, ends}
 use Rattle.lines.specs.Lines.{lineOf}
 
 abbrev one : Float

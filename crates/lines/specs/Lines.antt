@@ -2,9 +2,13 @@
 use Prim.Native.Nat.{ℕ}
 use mathlib.Core.List.{List, [], _∷_, _++_}
 use lib.Ieee.{Float}
-use Rattle.text.specs.Text.{bytes}
-use Rattle.figures.specs.Figures.{nextText, numberLine, floatsLine, countsText}
-use Rattle.outcomes.specs.Outcomes.{Word, met, wolfe, approximate, stop, limit, refusal, Told, asks, ends}
+use Rattle.text.specs.Text.{bytes, decimalOf}
+use Rattle.text.specs.Figures.{nextText, numberLine, floatsLine}
+use Rattle.runs.specs.Outcomes.{Word, met, wolfe, approximate, stop, limit, refusal, Told, asks, ends}
+
+-- "both counts as above"
+abbrev pub countsText : ℕ → ℕ → List ℕ
+countsText e i = bytes " evaluations " ++ decimalOf e ++ bytes " iterations " ++ decimalOf i ++ bytes "\n"
 
 abbrev pub verdictText : Word → List ℕ
 verdictText met = bytes "met"

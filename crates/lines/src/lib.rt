@@ -1,19 +1,37 @@
-// Outcomes as lines of text, written into a lent buffer as the crate text does.
+// What the programs show, as lines of text, written into a lent buffer as the crate text does: an outcome, a case's own
+// lines, and the lines that close a search.
 
-use outcomes::Evaluations;
-use outcomes::Iterations;
-use outcomes::Outcome;
-use outcomes::Verdict;
+use hagerzhang::Finished;
+use hagerzhang::Kept;
+use hagerzhang::Search;
+use runs::Evaluations;
+use runs::Iterations;
+use runs::Outcome;
+use runs::Verdict;
 ghost use mathlib.Core.List.{_++_};
-ghost use Rattle.outcomes.specs.Outcomes.{verdictWord, told};
+ghost use Rattle.runs.specs.Outcomes.{verdictWord, told};
 ghost use Rattle.text.specs.Text.{Writes, bytes};
-ghost use Rattle.lines.specs.Lines.{verdictText, stopLine, limitLine, refusedLine, lineOf};
+ghost use Rattle.hagerzhang.specs.Meaning.{lastOf, report};
+ghost use Rattle.lines.specs.Lines.{verdictText, countsText, stopLine, limitLine, refusedLine, lineOf};
+ghost use Rattle.lines.specs.CaseLines.{caseLine, malformedLine, valueLine, outLine};
+ghost use Rattle.lines.specs.Closing.{noneText, closingText};
+
+// ---- an outcome
+
+// Both counts, and the line's end.
+fn counts(out: &mut [u8], at: usize, e: Evaluations, i: Iterations) -> usize
+    ensures { λ r. ⌜ Writes (now (out .entry)) at (countsText (e .0) (i .0)) (now (out .exit)) r ⌝ }
+{
+    let p = text::word(out, at, b" evaluations ");
+    let q = text::decimal(out, p, e.0 as u64);
+    text::number_line(out, q, b" iterations ", i.0 as u64)
+}
 
 // The line of the refusal n.
 pub fn refused(out: &mut [u8], at: usize, n: u32) -> usize
     ensures { λ r. ⌜ Writes (now (out .entry)) at (refusedLine n) (now (out .exit)) r ⌝ }
 {
-    figures::number_line(out, at, b"REFUSED ", n as u64)
+    text::number_line(out, at, b"REFUSED ", n as u64)
 }
 
 fn verdict(out: &mut [u8], at: usize, v: Verdict) -> usize
@@ -30,16 +48,16 @@ fn stop(out: &mut [u8], at: usize, v: Verdict, x: f64, e: Evaluations, i: Iterat
     ensures { λ r. ⌜ Writes (now (out .entry)) at (stopLine (verdictWord v) x (e .0) (i .0)) (now (out .exit)) r ⌝ }
 {
     let p = verdict(out, at, v);
-    let q = figures::float(out, p, x);
-    figures::counts(out, q, e, i)
+    let q = text::float(out, p, x);
+    counts(out, q, e, i)
 }
 
 fn limit(out: &mut [u8], at: usize, x: f64, e: Evaluations, i: Iterations) -> usize
     ensures { λ r. ⌜ Writes (now (out .entry)) at (limitLine x (e .0) (i .0)) (now (out .exit)) r ⌝ }
 {
     let p = text::word(out, at, b"LIMIT");
-    let q = figures::float(out, p, x);
-    figures::counts(out, q, e, i)
+    let q = text::float(out, p, x);
+    counts(out, q, e, i)
 }
 
 // The line of an outcome, with the search's evaluations and iterations.
@@ -47,9 +65,71 @@ pub fn outcome(out: &mut [u8], at: usize, o: Outcome, e: Evaluations, i: Iterati
     ensures { λ r. ⌜ Writes (now (out .entry)) at (lineOf (told o) (e .0) (i .0)) (now (out .exit)) r ⌝ }
 {
     match o {
-        Outcome::Ask(x) => figures::floats_line(out, at, b"ASK", &[x]),
+        Outcome::Ask(x) => text::floats_line(out, at, b"ASK", &[x]),
         Outcome::Stop(v, x) => stop(out, at, v, x, e, i),
         Outcome::Limit(x) => limit(out, at, x, e, i),
         Outcome::Refused(k) => refused(out, at, k.number()),
+    }
+}
+
+// ---- a case: its head, a vector's numbers, a malformed field
+
+// The head of case k.
+pub fn head(out: &mut [u8], at: usize, k: u64) -> usize
+    ensures { λ r. ⌜ Writes (now (out .entry)) at (caseLine k) (now (out .exit)) r ⌝ }
+{
+    text::number_line(out, at, b"CASE ", k)
+}
+
+// A field that began at byte b is malformed.
+pub fn malformed(out: &mut [u8], at: usize, b: u64) -> usize
+    ensures { λ r. ⌜ Writes (now (out .entry)) at (malformedLine b) (now (out .exit)) r ⌝ }
+{
+    text::number_line(out, at, b"MALFORMED at ", b)
+}
+
+// A dot's value.
+pub fn value(out: &mut [u8], at: usize, x: f64) -> usize
+    ensures { λ r. ⌜ Writes (now (out .entry)) at (valueLine x) (now (out .exit)) r ⌝ }
+{
+    text::floats_line(out, at, b"VALUE", &[x])
+}
+
+// A buffer's numbers.
+pub fn buffer(out: &mut [u8], at: usize, xs: &[f64]) -> usize
+    ensures { λ r. ⌜ Writes (now (out .entry)) at (outLine (now (xs .entry))) (now (out .exit)) r ⌝ }
+{
+    text::floats_line(out, at, b"OUT", xs)
+}
+
+// ---- what a search holds when it is left
+
+// Neither bracket nor best.
+pub fn none(out: &mut [u8], at: usize, e: Evaluations, i: Iterations) -> usize
+    ensures { λ r. ⌜ Writes (now (out .entry)) at (noneText (e .0) (i .0)) (now (out .exit)) r ⌝ }
+{
+    let p = text::word(out, at, b"BRACKET none\nBEST none\nCOUNTS");
+    counts(out, p, e, i)
+}
+
+fn finished(out: &mut [u8], at: usize, f: Finished, e: Evaluations) -> usize
+    ensures { λ r. ⌜ Writes (now (out .entry)) at (closingText (lastOf f) (e .0)) (now (out .exit)) r ⌝ }
+{
+    let a = f.bracket.a;
+    let b = f.bracket.b;
+    let p = text::floats_line(out, at, b"BRACKET", &[a.x, a.f, a.g, b.x, b.f, b.g]);
+    let best = f.best;
+    let q = text::floats_line(out, p, b"BEST", &[best.x, best.f, best.g]);
+    let r = text::word(out, q, b"COUNTS");
+    counts(out, r, e, f.iterations)
+}
+
+// What this search holds.
+pub fn closing(out: &mut [u8], at: usize, s: Search) -> usize
+    ensures { λ r. ⌜ Writes (now (out .entry)) at (closingText (report s) (s .evaluations .0)) (now (out .exit)) r ⌝ }
+{
+    match hagerzhang::held(s) {
+        Kept::NoneYet => none(out, at, s.evaluations, Iterations(0)),
+        Kept::Last(f) => finished(out, at, f, s.evaluations),
     }
 }

@@ -8,15 +8,15 @@ use Prim.Native.Nat.{ℕ, zero, suc, _+_, _≤_, _<_}
 use native.Mathlib.Omega.{arith}
 use lib.ListN.{length}
 use lib.Ieee.{Float, isNan}
-use Rattle.outcomes.specs.Outcomes.{asks, ends, numbered, told}
-use Rattle.outcomes.specs.Asking.{Search as Rest, Over as Ended, ask, end, respond, shown, reported, onceTold}
-use Rattle.outcomes.proofs.Machines.{adds-one}
-use Rattle.outcomes.proofs.Ends.{Ends, at-ask}
-use Rattle.outcomes.proofs.Determined.{told-determined}
-use Rattle.outcomes.specs.declared.Outcome.{Outcome}
-use Rattle.outcomes.specs.declared.Outcome.the-variants.{Ask, Stop, Limit, Refused}
-use Rattle.rules.specs.declared.Setup.{Setup}
-use Rattle.rules.specs.Rules.{answerFinite, Report, iterationsIn}
+use Rattle.runs.specs.Outcomes.{asks, ends, numbered, told}
+use Rattle.runs.specs.Asking.{Search as Rest, Over as Ended, ask, end, respond, shown, reported, onceTold}
+use Rattle.runs.proofs.Machines.{adds-one}
+use Rattle.runs.proofs.Ends.{Ends, at-ask}
+use Rattle.runs.proofs.Determined.{told-determined}
+use Rattle.runs.specs.declared.Outcome.{Outcome}
+use Rattle.runs.specs.declared.Outcome.the-variants.{Ask, Stop, Limit, Refused}
+use Rattle.hagerzhang_rules.specs.declared.Setup.{Setup}
+use Rattle.hagerzhang_rules.specs.Rules.{answerFinite, Report, iterationsIn}
 use Rattle.curves.specs.declared.Curve.{Curve}
 use Rattle.curves.specs.Curves.{valueOf, slopeOf}
 use Rattle.hagerzhang.specs.declared.Stage.{Stage}

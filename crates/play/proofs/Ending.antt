@@ -5,15 +5,15 @@ use mathlib.Core.List.{List, []}
 use Prim.Native.Nat.{ℕ, zero, suc, _+_, _<_}
 use native.Mathlib.Omega.{arith}
 use lib.ListN.{length, length-append}
-use Rattle.numbers.specs.Results.{value}
-use Rattle.outcomes.specs.Asking.{Search as Rest, ask, end, onceTold}
-use Rattle.rules.specs.declared.Setup.{Setup}
-use Rattle.rules.specs.Rules.{Report}
+use Rattle.refusals.specs.Results.{value}
+use Rattle.runs.specs.Asking.{Search as Rest, ask, end, onceTold}
+use Rattle.hagerzhang_rules.specs.declared.Setup.{Setup}
+use Rattle.hagerzhang_rules.specs.Rules.{Report}
 use Rattle.curves.specs.declared.Curve.{Curve}
 use Rattle.hagerzhang.specs.declared.Step.{Step}
 use Rattle.hagerzhang.specs.Meaning.{meant}
-use Rattle.opening.specs.Start.{setupFor, beginOf}
-use Rattle.opening.proofs.Begins.{begun}
+use Rattle.jobs.specs.Opening.{setupFor, beginOf}
+use Rattle.jobs.proofs.Begins.{begun}
 use Rattle.play.specs.declared.Played.{Played}
 use Rattle.play.specs.declared.Played.the-variants.{On, Over}
 use Rattle.play.specs.Telling.{Said, telling}

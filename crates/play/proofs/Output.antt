@@ -9,16 +9,16 @@ use native.Mathlib.Omega.{arith}
 use lib.ListN.{length}
 use lib.Ieee.{Float}
 use Rattle.floats.proofs.Order.{finite→real}
-use Rattle.numbers.specs.Results.{Result, value, refused, Row, refuse_else_}
-use Rattle.outcomes.specs.Asking.{Search as Rest, ask, end, shown, onceTold}
-use Rattle.outcomes.proofs.Ends.{Ends, at-end, at-ask}
-use Rattle.outcomes.proofs.Refusals.{Passed, value-given, alike}
-use Rattle.rules.specs.declared.Options.{Options}
-use Rattle.rules.specs.declared.Setup.{Setup}
-use Rattle.rules.specs.Parameters.{setupOf, startRows}
-use Rattle.rules.specs.Rules.{answerFinite, Report, search}
-use Rattle.rules.proofs.Ranges.{level-finite, min-finite, max-finite, start-finite, limit-fits, most-answers}
-use Rattle.rules.proofs.Bounds.{search-within}
+use Rattle.refusals.specs.Results.{Result, value, refused, Row, refuse_else_}
+use Rattle.runs.specs.Asking.{Search as Rest, ask, end, shown, onceTold}
+use Rattle.runs.proofs.Ends.{Ends, at-end, at-ask}
+use Rattle.refusals.proofs.Refusals.{Passed, value-given, alike}
+use Rattle.hagerzhang_rules.specs.declared.Options.{Options}
+use Rattle.hagerzhang_rules.specs.declared.Setup.{Setup}
+use Rattle.hagerzhang_rules.specs.Parameters.{setupOf, startRows}
+use Rattle.hagerzhang_rules.specs.Rules.{answerFinite, Report, search}
+use Rattle.hagerzhang_rules.proofs.Ranges.{level-finite, min-finite, max-finite, start-finite, limit-fits, most-answers}
+use Rattle.hagerzhang_rules.proofs.Bounds.{search-within}
 use Rattle.curves.specs.declared.Curve.{Curve}
 use Rattle.hagerzhang.specs.declared.Step.{Step}
 use Rattle.hagerzhang.specs.Machine.{fresh}
@@ -26,8 +26,8 @@ use Rattle.hagerzhang.proofs.Bridge.{starts-whole}
 use Rattle.lines.specs.Lines.{refusedLine}
 use Rattle.jobs.specs.declared.Job.{Job}
 use Rattle.jobs.specs.Reader.{jobOf}
-use Rattle.opening.specs.Start.{f0Of, s0Of, setupFor, jobRows, beginsBy, beginOf}
-use Rattle.opening.proofs.Begins.{Begins, begun}
+use Rattle.jobs.specs.Opening.{f0Of, s0Of, setupFor, jobRows, beginsBy, beginOf}
+use Rattle.jobs.proofs.Begins.{Begins, begun}
 use Rattle.play.specs.declared.Played.the-variants.{On, Over}
 use Rattle.play.specs.Telling.{Said, telling, textOf}
 use Rattle.play.specs.Playing.{leftAfter, chunks, leftAfterChunks}

@@ -10,7 +10,7 @@ use lib.ListN.{length, take, set, length-set, length-append}
 use lib.Seq.{take-suc-set, append-snoc}
 use native.Mathlib.Numerals.{add-one}
 use borrow.Author.Tests.{lt-ltb}
-use Rattle.outcomes.specs.Outcomes.{Word, met, wolfe, approximate, stop, limit, refusal, Told, asks, ends}
+use Rattle.runs.specs.Outcomes.{Word, met, wolfe, approximate, stop, limit, refusal, Told, asks, ends}
 use Rattle.curves.specs.declared.Curve.{Curve}
 use Rattle.text.specs.Text.{Page, page, put, write, Writes, digit, decimalUpTo}
 use Rattle.lines.specs.Lines.{verdictText, lineOf}

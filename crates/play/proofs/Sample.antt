@@ -7,28 +7,13 @@ use mathlib.Core.List.{List, [], _∷_, _++_, append-nil}
 use Prim.Native.Nat.{ℕ, _+_}
 use native.Mathlib.Omega.{arith}
 use lib.Ieee.{Float, binary64, ofBits, ofInt, add, sub, mul, neg, le, lt}
-use Rattle.numbers.specs.Results.{value}
-use Rattle.outcomes.specs.Outcomes.{wolfe, stop, Told, asks, ends}
-use Rattle.outcomes.specs.Asking.{Search, keeping, question}
-use Rattle.outcomes.proofs.Refusals.{Passed, and, all, value-given}
-use Rattle.rules.specs.declared.Point.{Point}
-use Rattle.rules.specs.Parameters.{defaultOptions}
-use Rattle.rules.specs.Rules.{
-  point,
-  bracket,
-  answerFinite,
-  Report,
-  noneYet,
-  iterationsIn,
-  bestOver,
-  judgedOf,
-  decided,
-  verdict,
-  rounds,
-  askStart,
-  askHigh,
-  search,
-}
+use Rattle.refusals.specs.Results.{value}
+use Rattle.runs.specs.Outcomes.{wolfe, stop, Told, asks, ends}
+use Rattle.runs.specs.Asking.{Search, keeping, question}
+use Rattle.refusals.proofs.Refusals.{Passed, and, all, value-given}
+use Rattle.hagerzhang_rules.specs.declared.Point.{Point}
+use Rattle.hagerzhang_rules.specs.Parameters.{defaultOptions}
+use Rattle.hagerzhang_rules.specs.Rules.{point, bracket, answerFinite, Report, noneYet, iterationsIn, bestOver, judgedOf, decided, verdict, rounds, askStart, askHigh, search}
 use Rattle.curves.specs.declared.Curve.{Curve}
 use Rattle.curves.specs.Curves.{table, valueOf, slopeOf}
 use Rattle.text.specs.Text.{bytes}
@@ -37,7 +22,7 @@ use Rattle.jobs.specs.declared.Job.{Job}
 use Rattle.jobs.specs.Format.{Field, sizeOf, Holds, nothing, field, bodyOf, optionsOf, decoded, meansOf}
 use Rattle.jobs.specs.Reader.{jobOf}
 use Rattle.jobs.proofs.BothWays.{job-read}
-use Rattle.opening.specs.Start.{curveOf, setupFor, jobRows}
+use Rattle.jobs.specs.Opening.{curveOf, setupFor, jobRows}
 use Rattle.play.specs.Telling.{Said, telling, textOf}
 use Rattle.play.specs.Output.{searchText, alone, jobText, outputOf}
 

@@ -2,12 +2,12 @@
 -- which jobs/proofs/BothWays.antt shows to be the format), 01's order of refusals, 01's rules and 01's lines alone.
 use Prim.Native.Nat.{ℕ}
 use mathlib.Core.List.{List}
-use Rattle.numbers.specs.Results.{Result, value, refused, refuse_else_}
-use Rattle.rules.specs.Rules.{search}
+use Rattle.refusals.specs.Results.{Result, value, refused, refuse_else_}
+use Rattle.hagerzhang_rules.specs.Rules.{search}
 use Rattle.lines.specs.Lines.{refusedLine}
 use Rattle.jobs.specs.declared.Job.{Job}
 use Rattle.jobs.specs.Reader.{jobOf}
-use Rattle.opening.specs.Start.{curveOf, setupFor, jobRows}
+use Rattle.jobs.specs.Opening.{curveOf, setupFor, jobRows}
 use Rattle.play.specs.Telling.{telling, textOf}
 
 -- a search over the job's curve, from no evaluations on

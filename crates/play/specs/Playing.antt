@@ -3,10 +3,10 @@
 use Prim.Native.Nat.{ℕ, zero, suc}
 use mathlib.Core.Path.{_≡_}
 use mathlib.Core.List.{List, [], _∷_, _++_}
-use Rattle.outcomes.specs.Outcomes.{told}
-use Rattle.outcomes.specs.declared.Outcome.{Outcome}
-use Rattle.outcomes.specs.declared.Outcome.the-variants.{Ask, Stop, Limit, Refused}
-use Rattle.rules.specs.Rules.{iterationsIn}
+use Rattle.runs.specs.Outcomes.{told}
+use Rattle.runs.specs.declared.Outcome.{Outcome}
+use Rattle.runs.specs.declared.Outcome.the-variants.{Ask, Stop, Limit, Refused}
+use Rattle.hagerzhang_rules.specs.Rules.{iterationsIn}
 use Rattle.text.specs.Text.{Writes}
 use Rattle.curves.specs.declared.Curve.{Curve}
 use Rattle.curves.specs.Curves.{valueOf, slopeOf}

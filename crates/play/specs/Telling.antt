@@ -3,9 +3,9 @@
 use Prim.Native.Nat.{ℕ, _+_}
 use mathlib.Core.Bool.{cond}
 use mathlib.Core.List.{List, [], _∷_, _++_}
-use Rattle.outcomes.specs.Outcomes.{Told, asks, ends, numbered}
-use Rattle.outcomes.specs.Asking.{Search, ask, end}
-use Rattle.rules.specs.Rules.{answerFinite, Report, iterationsIn}
+use Rattle.runs.specs.Outcomes.{Told, asks, ends, numbered}
+use Rattle.runs.specs.Asking.{Search, ask, end}
+use Rattle.hagerzhang_rules.specs.Rules.{answerFinite, Report, iterationsIn}
 use Rattle.curves.specs.declared.Curve.{Curve}
 use Rattle.curves.specs.Curves.{valueOf, slopeOf}
 use Rattle.lines.specs.Lines.{lineOf}

@@ -3,7 +3,7 @@
 
 use curves::Curve;
 use hagerzhang::Step;
-use outcomes::Outcome;
+use runs::Outcome;
 ghost use mathlib.Core.Path.{_≡_};
 ghost use Rattle.text.specs.Text.{Writes};
 ghost use Rattle.play.specs.Telling.{saidLine};

@@ -1,9 +1,9 @@
 // Runs the job on standard input, and writes what its search tells to standard output, a line for each outcome.
 use curves::Curve;
 use hagerzhang::Step;
+use jobs::Opened;
 use libc::STDIN_FILENO;
 use libc::STDOUT_FILENO;
-use opening::Opened;
 use play::Played;
 ghost use mathlib.Core.Path.{_≡_};
 ghost use Prim.Native.Nat.{_≤_};
@@ -52,7 +52,7 @@ fn refuse(number: u32) {
 fn main() {
     let mut job = [0u8; 56];
     let n = io::read_full(STDIN_FILENO, &mut job);
-    match opening::begin(&job[..n]) {
+    match jobs::begin(&job[..n]) {
         Opened::Begun(c, t) => tell(c, t),
         Opened::NoSearch(k) => refuse(k.number()),
         Opened::Unreadable => refuse(9),

@@ -1,3 +1,4 @@
 pub mod Digits
 pub mod Samples
 pub mod Writing
+pub mod Runs

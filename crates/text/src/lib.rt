@@ -1,11 +1,12 @@
-// Text written into a lent buffer: each function writes at a place, as much as there is room for, and answers the place
-// behind it.
+// Text written into a lent buffer: bytes, words and numbers. Each function writes at a place, as much as there is room
+// for, and answers the place behind it.
 
 ghost use mathlib.Core.List.{[], _∷_};
 ghost use mathlib.Core.Path.{_≡_};
 ghost use Prim.Native.Nat.{_<_};
 ghost use Rattle.text.specs.Text.{Writes, hexOf, decimalOf, decimalUpTo};
 ghost use Rattle.text.specs.Text.{digit as Text·digit};
+ghost use Rattle.text.specs.Figures.{nextText, floatsText, floatsLine, numberLine};
 
 // One byte; a full buffer stays as it is.
 pub fn byte(out: &mut [u8], at: usize, b: u8) -> usize
@@ -104,4 +105,44 @@ pub fn decimal(out: &mut [u8], at: usize, n: u64) -> usize
     ensures { λ r. ⌜ Writes (now (out .entry)) at (decimalOf n) (now (out .exit)) r ⌝ }
 {
     decimal_up_to(out, at, 20, n)
+}
+
+// ---- numbers as they stand in a line
+
+// A blank, and the float's 64 bits.
+pub fn float(out: &mut [u8], at: usize, x: f64) -> usize
+    ensures { λ r. ⌜ Writes (now (out .entry)) at (nextText x) (now (out .exit)) r ⌝ }
+{
+    let digits = byte(out, at, b' ');
+    hex(out, digits, numbers::bits_of(x))
+}
+
+fn floats(out: &mut [u8], at: usize, xs: &[f64]) -> usize
+    ensures { λ r. ⌜ Writes (now (out .entry)) at (floatsText (now (xs .entry))) (now (out .exit)) r ⌝ }
+{
+    let mut p = at;
+    let mut i = 0;
+    while i < xs.len() {
+        p = float(out, p, xs[i]);
+        i += 1;
+    }
+    p
+}
+
+// A line of a word and floats.
+pub fn floats_line(out: &mut [u8], at: usize, w: &[u8], v: &[f64]) -> usize
+    ensures { λ r. ⌜ Writes (now (out .entry)) at (floatsLine (now (w .entry)) (now (v .entry))) (now (out .exit)) r ⌝ }
+{
+    let p = word(out, at, w);
+    let q = floats(out, p, v);
+    byte(out, q, b'\n')
+}
+
+// A line, or its end, of a word and a number.
+pub fn number_line(out: &mut [u8], at: usize, w: &[u8], n: u64) -> usize
+    ensures { λ r. ⌜ Writes (now (out .entry)) at (numberLine (now (w .entry)) n) (now (out .exit)) r ⌝ }
+{
+    let digits = word(out, at, w);
+    let end = decimal(out, digits, n);
+    byte(out, end, b'\n')
 }

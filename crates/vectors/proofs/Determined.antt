@@ -6,8 +6,8 @@ use mathlib.Core.List.{List}
 use Prim.Native.Nat.{ℕ}
 use lib.Dec.{eqb}
 use lib.Ieee.{Float}
-use Rattle.numbers.specs.Results.{Result, value, refused}
-use Rattle.numbers.proofs.Determined.{determined}
+use Rattle.refusals.specs.Results.{Result, value, refused}
+use Rattle.floats.proofs.Determined.{determined}
 use Rattle.vectors.specs.declared.Refusal.{Refusal}
 use Rattle.vectors.specs.declared.Refusal.the-variants.{Lengths, SuppliedNotFinite, ResultNotFinite}
 use Rattle.vectors.specs.declared.DotResult.{DotResult}

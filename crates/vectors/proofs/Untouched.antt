@@ -3,7 +3,7 @@ use mathlib.Core.Path.{_≡_, sym, ap, _∙_}
 use mathlib.Core.List.{List}
 use Prim.Native.Nat.{ℕ}
 use lib.Ieee.{Float}
-use Rattle.numbers.specs.Results.{Result, refused}
+use Rattle.refusals.specs.Results.{Result, refused}
 use Rattle.vectors.specs.declared.PointResult.{PointResult}
 use Rattle.vectors.specs.Vectors.{heldAfter}
 use Rattle.vectors.specs.Told.{pointTold, PointSaid}

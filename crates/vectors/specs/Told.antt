@@ -11,7 +11,7 @@ use Rattle.vectors.specs.declared.DotResult.{DotResult}
 use Rattle.vectors.specs.declared.DotResult.the-variants.{Value, Refused}
 use Rattle.vectors.specs.declared.PointResult.{PointResult}
 use Rattle.vectors.specs.declared.PointResult.the-variants.{Written, Untouched}
-use Rattle.numbers.specs.Results.{Result, value, refused}
+use Rattle.refusals.specs.Results.{Result, value, refused}
 use Rattle.vectors.specs.Vectors.{dotOf, pointOf, heldAfter}
 
 abbrev pub numberOf : Refusal → ℕ

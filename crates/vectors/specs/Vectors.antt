@@ -8,7 +8,7 @@ use lib.Dec.{ltb, eqb}
 use lib.Ieee.{Float}
 use lib.Ieee.Scale.{finite}
 use Rattle.floats.specs.Arithmetic.{_⊕_, _⊗_, 0ᶠ}
-use Rattle.numbers.specs.Results.{Result, value, refused, Row, refuse_else_}
+use Rattle.refusals.specs.Results.{Result, value, refused, Row, refuse_else_}
 
 -- 01: "Vectors have n elements, 1 <= n <= 256"; and in the table, 1: "n is 0, above 256 .."
 abbrev pub badLength : ℕ → Bool

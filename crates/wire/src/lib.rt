@@ -62,5 +62,5 @@ pub fn word(s: &[u8]) -> u64
 pub fn float(s: &[u8]) -> f64
     ensures { λ r. ⌜ r ≡ floatOf (now (s .entry)) ⌝ }
 {
-    bits::float_of(word(s))
+    numbers::float_of(word(s))
 }

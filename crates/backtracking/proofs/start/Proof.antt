@@ -1,7 +1,7 @@
 -- `backtracking::start` meets its contract: 2, then 3. Assumes nothing.
 use mathlib.Core.Path.{_≡_}
 use mathlib.Core.Bool.{true}
-use Rattle.outcomes.proofs.Branches.{not-by-call, not-not-by-call}
+use Rattle.floats.proofs.Branches.{not-by-call, not-not-by-call}
 use Rattle.backtracking.specs.Backtracking.{suppliedFinite}
 use Rattle.backtracking.proofs.Bridge.{start-promised}
 use Rattle.backtracking.proofs.start.Statement.{statement}

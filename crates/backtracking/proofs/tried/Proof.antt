@@ -2,7 +2,7 @@
 use mathlib.Core.Path.{_≡_}
 use mathlib.Core.Bool.{true, false}
 use borrow.Author.Tests.{le-leb, lt-leb}
-use Rattle.outcomes.proofs.Branches.{by-call, not-by-call, not-not-by-call}
+use Rattle.floats.proofs.Branches.{by-call, not-by-call, not-not-by-call}
 use Rattle.conditions.specs.Conditions.{answerFinite, holdsOf}
 use Rattle.backtracking.specs.Machine.{triedOf}
 use Rattle.backtracking.proofs.tried.Statement.{statement}

@@ -1,7 +1,7 @@
 -- `cases::begun` meets its contract: the lengths in its field are at most 511. Assumes nothing.
 use borrow.Author.Needs.{needs}
 use mathlib.Core.Path.{subst}
-use Rattle.case_fields.specs.Fields.{Short}
+use Rattle.case_files.specs.CaseFiles.{Short}
 use Rattle.cases.proofs.begun.Statement.{statement}
 use Rattle.cases.proofs.begun.Tie as tie
 

@@ -1,8 +1,8 @@
 -- `cases::served` meets its contract: the lengths in a field that was read are at most 511. Assumes nothing.
 use borrow.Author.Needs.{needs}
 use mathlib.Core.Path.{sym, subst}
-use Rattle.case_fields.specs.Fields.{Short}
-use Rattle.case_fields.proofs.Lengths.{read-short}
+use Rattle.case_files.specs.CaseFiles.{Short}
+use Rattle.case_files.proofs.Lengths.{read-short}
 use Rattle.cases.proofs.served.Statement.{statement}
 use Rattle.cases.proofs.served.Tie as tie
 

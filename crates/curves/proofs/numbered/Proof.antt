@@ -2,7 +2,7 @@
 use borrow.Author.Needs.{needs}
 use mathlib.Core.Path.{ap}
 use borrow.Author.Tests.{le-leb, lt-leb}
-use Rattle.numbers.specs.Results.{value}
+use Rattle.refusals.specs.Results.{value}
 use Rattle.curves.proofs.numbered.Statement.{statement}
 use Rattle.curves.proofs.numbered.Tie as tie
 

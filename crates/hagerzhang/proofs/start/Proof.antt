@@ -1,5 +1,5 @@
 -- `hagerzhang::start` meets its contract: 2, then 3, then 4. Assumes nothing.
-use Rattle.outcomes.proofs.Branches.{not-by-call, not-not-by-call}
+use Rattle.floats.proofs.Branches.{not-by-call, not-not-by-call}
 use Rattle.hagerzhang.proofs.Bridge.{start-promised}
 use Rattle.hagerzhang.proofs.start.Statement.{statement}
 use Rattle.hagerzhang.proofs.start.Tie as tie

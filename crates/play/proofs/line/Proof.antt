@@ -1,9 +1,9 @@
 -- `play::line` meets its contract: the iterations in the line are those of what the search holds. Assumes nothing.
 use mathlib.Core.Path.{_≡_, ap, _∙_}
 use borrow.Author.Needs.{needs}
-use Rattle.outcomes.specs.Counters.{iterations}
-use Rattle.outcomes.specs.declared.Iterations.{Iterations}
-use Rattle.rules.specs.Rules.{iterationsIn}
+use Rattle.runs.specs.Counters.{iterations}
+use Rattle.runs.specs.declared.Iterations.{Iterations}
+use Rattle.hagerzhang_rules.specs.Rules.{iterationsIn}
 use Rattle.hagerzhang.specs.declared.Kept.{Kept}
 use Rattle.hagerzhang.specs.declared.Search.{Search}
 use Rattle.hagerzhang.specs.Machine.{keptIn}

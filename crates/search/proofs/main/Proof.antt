@@ -1,7 +1,7 @@
 -- `search::main` meets its contract: what a job begins is a play that ends. Assumes nothing.
 use mathlib.Core.Path.{sym, ap, _∙_}
 use borrow.Author.Needs.{needs}
-use Rattle.opening.specs.Start.{openedTold}
+use Rattle.jobs.specs.Opening.{openedTold}
 use Rattle.play.proofs.Ending.{begun-playable}
 use Rattle.search.proofs.main.Statement.{statement}
 use Rattle.search.proofs.main.Tie as tie

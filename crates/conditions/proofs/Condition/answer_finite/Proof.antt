@@ -1,6 +1,6 @@
 -- `conditions::Condition::answer_finite` meets its contract. Assumes nothing.
 use borrow.Author.Needs.{needs}
-use Rattle.outcomes.proofs.Branches.{if-yes, if-no, by-call}
+use Rattle.floats.proofs.Branches.{if-yes, if-no, by-call}
 use Rattle.conditions.proofs.Condition.answer_finite.Statement.{statement}
 use Rattle.conditions.proofs.Condition.answer_finite.Tie as tie
 

@@ -1,5 +1,5 @@
 -- `hagerzhang::iteration::comes` meets its contract. Assumes nothing.
-use Rattle.outcomes.proofs.Branches.{tests}
+use Rattle.floats.proofs.Branches.{tests}
 use Rattle.hagerzhang.specs.Machine.{comesOf}
 use borrow.Author.Needs.{needs}
 use Rattle.hagerzhang.proofs.iteration.comes.Statement.{statement}

@@ -1,5 +1,5 @@
 -- `hagerzhang::iteration::follow` meets its contract. Assumes nothing.
-use Rattle.outcomes.proofs.Branches.{tests}
+use Rattle.floats.proofs.Branches.{tests}
 use Rattle.hagerzhang.specs.Machine.{followBy}
 use borrow.Author.Needs.{needs}
 use Rattle.hagerzhang.proofs.iteration.follow.Statement.{statement}

@@ -1,0 +1,28 @@
+-- `bodies::condition` meets its contract. Assumes nothing.
+use borrow.Author.Tests.{eq-eqb, ne-eqb}
+use Rattle.bodies.specs.Bodies.{conditionOf}
+use Rattle.bodies.proofs.condition.Statement.{statement}
+use Rattle.bodies.proofs.condition.Tie as tie
+
+returns : tie.Need-returns
+unfolding conditionOf
+returns c =
+    simp (eq-eqb _ _ (c .if1 .taken))
+
+returns-2 : tie.Need-returns-2
+unfolding conditionOf
+returns-2 c =
+    simp (ne-eqb _ _ (c .before .if1 .left), eq-eqb _ _ (c .if2 .taken))
+
+returns-3 : tie.Need-returns-3
+unfolding conditionOf
+returns-3 c =
+    simp (ne-eqb _ _ (c .before .before .if1 .left), ne-eqb _ _ (c .before .if2 .left), eq-eqb _ _ (c .if3 .taken))
+
+returns-4 : tie.Need-returns-4
+unfolding conditionOf
+returns-4 c =
+    simp (ne-eqb _ _ (c .before .before .if1 .left), ne-eqb _ _ (c .before .if2 .left), ne-eqb _ _ (c .if3 .left))
+
+pub condition-spec : {M : Type 1} → statement M
+condition-spec = tie.close (tie.spec returns returns-2 returns-3 returns-4)

@@ -1,0 +1,145 @@
+// The fields of a case file: what the body of each says.
+
+use backtracking::Setup;
+use conditions::Condition;
+use hagerzhang_rules::Options;
+use hagerzhang_rules::Params;
+ghost use mathlib.Core.Path.{_≡_};
+ghost use Prim.Native.Nat.{_≤_};
+ghost use lib.ListN.{length, drop};
+ghost use Rattle.bodies.specs.Bodies.{floatAt, quadAt, paramsOf, hagerZhangOf, conditionOf, backtrackingOf, replyOf, floatsOf};
+
+// A Hager-Zhang start: its options, and cost and slope at step 0.
+pub struct SearchStart {
+    pub options: Options,
+    pub f0: f64,
+    pub s0: f64,
+}
+
+// An answer.
+pub struct Reply {
+    pub cost: f64,
+    pub slope: f64,
+}
+
+// The float from a place on.
+fn float(body: &[u8], at: usize) -> f64
+    ensures { λ r. ⌜ r ≡ floatAt (now (body .entry)) at ⌝ }
+{
+    wire::float(wire::from(body, at))
+}
+
+fn quad(body: &[u8], at: usize) -> u32
+    ensures { λ r. ⌜ r ≡ quadAt (now (body .entry)) at ⌝ }
+{
+    wire::quad(wire::from(body, at))
+}
+
+fn params(body: &[u8]) -> Params
+    ensures { λ r. ⌜ r ≡ paramsOf (now (body .entry)) ⌝ }
+{
+    Params {
+        delta: float(body, 0),
+        sigma: float(body, 8),
+        epsilon: float(body, 16),
+        theta: float(body, 24),
+        gamma: float(body, 32),
+        eta: float(body, 40),
+        min: float(body, 48),
+        max: float(body, 56),
+        start: float(body, 64),
+    }
+}
+
+pub fn hager_zhang(body: &[u8]) -> SearchStart
+    ensures { λ r. ⌜ r ≡ hagerZhangOf (now (body .entry)) ⌝ }
+{
+    let p = params(body);
+    let f0 = float(body, 72);
+    let s0 = float(body, 80);
+    let budget = quad(body, 88);
+    let limit = quad(body, 92);
+    SearchStart {
+        options: Options {
+            params: p,
+            budget,
+            limit,
+        },
+        f0,
+        s0,
+    }
+}
+
+fn condition(kind: u8, c1: f64, c2: f64) -> Condition
+    ensures { λ r. ⌜ r ≡ conditionOf kind c1 c2 ⌝ }
+{
+    if kind == 1 {
+        return Condition::Armijo { c: c1 };
+    }
+    if kind == 2 {
+        return Condition::Goldstein { c: c1 };
+    }
+    if kind == 3 {
+        return Condition::Wolfe { c1, c2 };
+    }
+    Condition::StrongWolfe { c1, c2 }
+}
+
+pub fn backtracking(body: &[u8]) -> Setup
+    ensures { λ r. ⌜ r ≡ backtrackingOf (now (body .entry)) ⌝ }
+{
+    let kind = wire::byte(body, 0);
+    let held_to = condition(kind, float(body, 1), float(body, 9));
+    let rho = float(body, 17);
+    let alpha = float(body, 25);
+    let f0 = float(body, 33);
+    let s0 = float(body, 41);
+    let limit = quad(body, 49);
+    Setup {
+        condition: held_to,
+        rho,
+        alpha,
+        f0,
+        s0,
+        limit,
+    }
+}
+
+pub fn answer(body: &[u8]) -> Reply
+    ensures { λ r. ⌜ r ≡ replyOf (now (body .entry)) ⌝ }
+{
+    Reply {
+        cost: float(body, 0),
+        slope: float(body, 8),
+    }
+}
+
+// The place at, or the end where that comes first.
+fn within(body: &[u8], at: usize) -> usize
+    ensures { λ r. ⌜ (r ≤ length (now (body .entry))) × (drop r (now (body .entry)) ≡ drop at (now (body .entry))) ⌝ }
+{
+    let n = body.len();
+    if at < n { at } else { n }
+}
+
+// The place of the next float, or the end.
+fn next(body: &[u8], at: usize) -> usize
+    requires { ⌜ at ≤ length (now body) ⌝ }
+    ensures { λ r. ⌜ (r ≤ length (now (body .entry))) × (drop r (now (body .entry)) ≡ drop 8 (drop at (now (body .entry)))) ⌝ }
+{
+    let n = body.len();
+    if n - at < 8 { n } else { at + 8 }
+}
+
+// Fills v with the floats of the body, from a place on.
+pub fn floats(body: &[u8], at: usize, v: &mut [f64])
+    ensures { λ _. ⌜ now (v .exit) ≡ floatsOf (length (now (v .entry))) (drop at (now (body .entry))) ⌝ }
+{
+    let mut p = within(body, at);
+    let mut i = 0;
+    while i < v.len() {
+        v[i] = float(body, p);
+        p = next(body, p);
+        i += 1;
+    }
+}

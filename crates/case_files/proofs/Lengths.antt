@@ -1,0 +1,107 @@
+-- What a field that is not malformed may have: a body of at most 8,190 bytes, and lengths of at most 511. Assumes nothing.
+use mathlib.Core.Path.{_≡_, refl}
+use mathlib.Core.Bool.{Bool, true, false, cond, _&&_}
+use mathlib.Core.List.{List}
+use Prim.Native.Nat.{ℕ, _+_, _*_, _<_, _≤_}
+use native.Mathlib.Omega.{arith}
+use borrow.Author.Tests.{leb-true, eqb-true}
+use lib.Dec.{eqb}
+use lib.ListN.{drop}
+use Rattle.floats.proofs.Branches.{and-first, and-second}
+use Rattle.wire.specs.Wire.{byteAt, pairOf}
+use Rattle.case_files.specs.declared.Field.{Field}
+use Rattle.case_files.specs.declared.Field.the-variants.{StartHagerZhang, StartBacktracking, Answer, Dot, Point, Malformed}
+use Rattle.case_files.specs.CaseFiles.{isLength, isCondition, dotField, pointField, taggedField, readOf, Short}
+
+-- of a field whose body has this size
+abbrev Sound : ℕ → Field → Type 0
+Sound size StartHagerZhang = size ≤ 8190
+Sound size StartBacktracking = size ≤ 8190
+Sound size Answer = size ≤ 8190
+Sound size (Dot n m) = (size ≤ 8190) × (n ≤ 511) × (m ≤ 511)
+Sound size (Point n m k) = (size ≤ 8190) × (n ≤ 511) × (m ≤ 511) × (k ≤ 511)
+Sound size Malformed = Unit
+
+chosen : (P : Field → Type 0) (b : Bool) (x y : Field) → (b ≡ true → P x) → P y → P (cond b x y)
+chosen P true x y h k = h refl
+chosen P false x y h k = k
+
+dot-sound : (size n m : ℕ) → Sound size (dotField size n m)
+unfolding dotField
+dot-sound size n m =
+    let fits = eqb size (4 + 8 * (n + m)) in
+    chosen (Sound size) (isLength n && isLength m && fits) (Dot n m) Malformed
+    (λ e.
+    let nm = and-first (isLength n && isLength m) fits e in
+    let a = leb-true n 511 (and-first (isLength n) (isLength m) nm) in
+    let b = leb-true m 511 (and-second (isLength n) (isLength m) nm) in
+    let s = eqb-true size (4 + 8 * (n + m)) (and-second (isLength n && isLength m) fits e) in
+    (omega arith, a, b))
+    tt
+
+point-sound : (size n m k : ℕ) → Sound size (pointField size n m k)
+unfolding pointField
+point-sound size n m k =
+    let fits = eqb size (14 + 8 * (n + m)) in
+    chosen (Sound size) (isLength n && isLength m && isLength k && fits) (Point n m k) Malformed
+    (λ e.
+    let nmk = and-first (isLength n && isLength m && isLength k) fits e in
+    let nm = and-first (isLength n && isLength m) (isLength k) nmk in
+    let a = leb-true n 511 (and-first (isLength n) (isLength m) nm) in
+    let b = leb-true m 511 (and-second (isLength n) (isLength m) nm) in
+    let d = leb-true k 511 (and-second (isLength n && isLength m) (isLength k) nmk) in
+    let s = eqb-true size (14 + 8 * (n + m)) (and-second (isLength n && isLength m && isLength k) fits e) in
+    (omega arith, a, b, d))
+    tt
+
+answer-sound : (size : ℕ) (searching : Bool) → Sound size (cond (searching && eqb size 16) Answer Malformed)
+answer-sound size searching =
+    chosen (Sound size) (searching && eqb size 16) Answer Malformed
+    (λ e. let s = eqb-true size 16 (and-second searching (eqb size 16) e) in omega arith) tt
+
+hager-zhang-sound : (size : ℕ) → Sound size (cond (eqb size 96) StartHagerZhang Malformed)
+hager-zhang-sound size = chosen (Sound size) (eqb size 96) StartHagerZhang Malformed (λ e. let s = eqb-true size 96 e in omega arith) tt
+
+backtracking-sound : (size : ℕ) (condition : Bool) → Sound size (cond (eqb size 53 && condition) StartBacktracking Malformed)
+backtracking-sound size condition =
+    chosen (Sound size) (eqb size 53 && condition) StartBacktracking Malformed
+    (λ e. let s = eqb-true size 53 (and-first (eqb size 53) condition e) in omega arith) tt
+
+tagged-sound : (tag size : ℕ) (body : List ℕ) (searching : Bool) → Sound size (taggedField tag size body searching)
+unfolding taggedField
+tagged-sound tag size body searching =
+    chosen (Sound size) (eqb tag 17) _ _ (λ e. answer-sound size searching)
+    (chosen (Sound size) (eqb tag 32) _ _ (λ e. hager-zhang-sound size)
+    (chosen (Sound size) (eqb tag 33) _ _ (λ e. backtracking-sound size (isCondition (byteAt body 0)))
+    (chosen (Sound size) (eqb tag 34) _ _ (λ e. dot-sound size (pairOf body) (pairOf (drop 2 body)))
+    (chosen (Sound size) (eqb tag 35) _ _ (λ e. point-sound size (pairOf body) (pairOf (drop 2 body)) (pairOf (drop 4 body))) tt))))
+
+-- ---- "Each length in 34 and 35 is at most 511."
+
+short : (size : ℕ) (f : Field) → Sound size f → Short f
+short size StartHagerZhang s = tt
+short size StartBacktracking s = tt
+short size Answer s = tt
+short size (Dot n m) s = (s .1, s .2)
+short size (Point n m k) s = (s .1, s .2, s .3)
+short size Malformed s = tt
+
+tagged-short : (tag size : ℕ) (body : List ℕ) (searching : Bool) → Short (taggedField tag size body searching)
+tagged-short tag size body searching = short size (taggedField tag size body searching) (tagged-sound tag size body searching)
+
+pub read-short : (s : List ℕ) (searching : Bool) → Short (readOf s searching)
+unfolding readOf
+read-short s searching = search (chosen Short, tagged-short)
+
+-- ---- a body of more than 8,190 bytes is malformed, whatever its tag
+
+none-sound : (size : ℕ) (f : Field) → 8190 < size → Sound size f → f ≡ Malformed
+none-sound size StartHagerZhang h s = absurd (omega arith)
+none-sound size StartBacktracking h s = absurd (omega arith)
+none-sound size Answer h s = absurd (omega arith)
+none-sound size (Dot n m) h s = absurd (omega arith)
+none-sound size (Point n m k) h s = absurd (omega arith)
+none-sound size Malformed h s = refl
+
+pub long-malformed : (tag size : ℕ) (body : List ℕ) (searching : Bool) → 8190 < size → taggedField tag size body searching ≡ Malformed
+long-malformed tag size body searching h = none-sound size (taggedField tag size body searching) h (tagged-sound tag size body searching)

@@ -1,0 +1,109 @@
+// The fields of a case file: which one stands at a place.
+
+ghost use mathlib.Core.Path.{_≡_};
+ghost use Rattle.case_files.specs.CaseFiles.{isCondition, dotField, pointField, taggedField, readOf};
+
+// A field by its kind, with the lengths that its body names.
+pub enum Field {
+    // tag 32: a Hager-Zhang start
+    StartHagerZhang,
+    // tag 33: a backtracking start
+    StartBacktracking,
+    // tag 17: cost and slope
+    Answer,
+    // tag 34: of vectors with so many elements
+    Dot(usize, usize),
+    // tag 35: of x0, d and out with so many elements
+    Point(usize, usize, usize),
+    Malformed,
+}
+
+fn is_condition(k: u8) -> bool
+    ensures { λ r. ⌜ r ≡ isCondition k ⌝ }
+{
+    (1 <= k) & (k <= 4)
+}
+
+fn dot_field(size: usize, n: usize, m: usize) -> Field
+    ensures { λ r. ⌜ r ≡ dotField size n m ⌝ }
+{
+    if 511 < n {
+        return Field::Malformed;
+    }
+    if 511 < m {
+        return Field::Malformed;
+    }
+    if size == 4 + 8 * (n + m) {
+        return Field::Dot(n, m);
+    }
+    Field::Malformed
+}
+
+fn point_field(size: usize, n: usize, m: usize, k: usize) -> Field
+    ensures { λ r. ⌜ r ≡ pointField size n m k ⌝ }
+{
+    if 511 < n {
+        return Field::Malformed;
+    }
+    if 511 < m {
+        return Field::Malformed;
+    }
+    if 511 < k {
+        return Field::Malformed;
+    }
+    if size == 14 + 8 * (n + m) {
+        return Field::Point(n, m, k);
+    }
+    Field::Malformed
+}
+
+fn tagged_field(tag: u8, size: usize, body: &[u8], searching: bool) -> Field
+    ensures { λ r. ⌜ r ≡ taggedField tag size (now (body .entry)) searching ⌝ }
+{
+    if tag == 17 {
+        if searching & (size == 16) {
+            return Field::Answer;
+        }
+        return Field::Malformed;
+    }
+    if tag == 32 {
+        if size == 96 {
+            return Field::StartHagerZhang;
+        }
+        return Field::Malformed;
+    }
+    if tag == 33 {
+        let condition = is_condition(wire::byte(body, 0));
+        if (size == 53) & condition {
+            return Field::StartBacktracking;
+        }
+        return Field::Malformed;
+    }
+    if tag == 34 {
+        return dot_field(size, wire::pair(body), wire::pair(wire::from(body, 2)));
+    }
+    if tag == 35 {
+        return point_field(
+            size,
+            wire::pair(body),
+            wire::pair(wire::from(body, 2)),
+            wire::pair(wire::from(body, 4)),
+        );
+    }
+    Field::Malformed
+}
+
+// The field with which s begins; `searching` says whether answers may come.
+pub fn read(s: &[u8], searching: bool) -> Field
+    ensures { λ r. ⌜ r ≡ readOf (now (s .entry)) searching ⌝ }
+{
+    let size = wire::pair(wire::from(s, 1));
+    let body = wire::from(s, 3);
+    if s.len() < 3 {
+        return Field::Malformed;
+    }
+    if body.len() < size {
+        return Field::Malformed;
+    }
+    tagged_field(wire::byte(s, 0), size, body, searching)
+}

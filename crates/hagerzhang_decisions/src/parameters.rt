@@ -1,0 +1,68 @@
+// 01's "Parameters" of Hager-Zhang: the defaults, and the tests of a start for refusals 2 and 3.
+
+use hagerzhang_rules::Options;
+use hagerzhang_rules::Params;
+ghost use mathlib.Core.Path.{_≡_};
+ghost use Rattle.hagerzhang_rules.specs.Parameters.{defaultOptions, paramsFinite, suppliedFinite, inRanges};
+
+// argmin's parameters, and a budget and a limit of 100.
+pub fn defaults() -> Options
+    ensures { λ r. ⌜ r ≡ defaultOptions ⌝ }
+{
+    Options {
+        params: Params {
+            delta: 0.1,
+            sigma: 0.9,
+            epsilon: 1e-6,
+            theta: 0.5,
+            gamma: 0.66,
+            eta: 0.01,
+            min: 2.220446049250313e-16,
+            max: 1e5,
+            start: 1.0,
+        },
+        budget: 100,
+        limit: 100,
+    }
+}
+
+// The parameters' own part of refusal 2.
+pub fn params_finite(p: Params) -> bool
+    ensures { λ r. ⌜ r ≡ paramsFinite p ⌝ }
+{
+    let wolfe = numbers::both_finite(p.delta, p.sigma);
+    let epsilon = numbers::is_finite(p.epsilon);
+    let theta = numbers::is_finite(p.theta);
+    let gamma = numbers::is_finite(p.gamma);
+    let eta = numbers::is_finite(p.eta);
+    let min = numbers::is_finite(p.min);
+    let max = numbers::is_finite(p.max);
+    let start = numbers::is_finite(p.start);
+    wolfe & epsilon & theta & gamma & eta & min & max & start
+}
+
+pub fn supplied_finite(o: Options, f0: f64, s0: f64) -> bool
+    ensures { λ r. ⌜ r ≡ suppliedFinite o f0 s0 ⌝ }
+{
+    let params = params_finite(o.params);
+    let cost = numbers::is_finite(f0);
+    let slope = numbers::is_finite(s0);
+    params & cost & slope
+}
+
+pub fn in_ranges(o: Options) -> bool
+    ensures { λ r. ⌜ r ≡ inRanges o ⌝ }
+{
+    let p = o.params;
+    let wolfe = (0.0 < p.delta) & (p.delta < 1.0) & (p.delta <= p.sigma) & (p.sigma < 1.0);
+    let factors = (0.0 <= p.epsilon)
+        & (0.0 < p.theta)
+        & (p.theta < 1.0)
+        & (0.0 < p.gamma)
+        & (p.gamma < 1.0)
+        & (0.0 < p.eta);
+    let bounds = (0.0 <= p.min) & (p.min < p.max);
+    let budget = (1 <= o.budget) & (o.budget <= 1000);
+    let limit = (1 <= o.limit) & (o.limit <= 10000);
+    wolfe & factors & bounds & (budget & limit)
+}

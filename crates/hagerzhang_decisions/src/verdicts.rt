@@ -1,0 +1,47 @@
+// 01's best and verdict (argmin's hagerzhang.rs: set_best, terminate).
+
+use hagerzhang_rules::Judged;
+use hagerzhang_rules::Point;
+use hagerzhang_rules::Setup;
+use runs::Verdict;
+ghost use mathlib.Core.Path.{_≡_};
+ghost use Rattle.hagerzhang_rules.specs.Rules.{bestOf, wolfeHolds, approximateHolds, judgedOf};
+
+pub fn best(a: Point, b: Point, c: Point) -> Point
+    ensures { λ r. ⌜ r ≡ bestOf a b c ⌝ }
+{
+    if (c.f <= a.f) & (c.f <= b.f) {
+        return c;
+    }
+    if (b.f <= a.f) & (b.f <= c.f) {
+        return b;
+    }
+    a
+}
+
+fn wolfe(s: Setup, p: Point) -> bool
+    ensures { λ r. ⌜ r ≡ wolfeHolds s p ⌝ }
+{
+    (p.f - s.f0 <= (s.options.params.delta * p.x) * s.s0) & (p.g >= s.options.params.sigma * s.s0)
+}
+
+fn approximate(s: Setup, p: Point) -> bool
+    ensures { λ r. ⌜ r ≡ approximateHolds s p ⌝ }
+{
+    ((2.0 * s.options.params.delta - 1.0) * s.s0 >= p.g)
+        & (p.g >= s.options.params.sigma * s.s0)
+        & (p.f <= s.level)
+}
+
+// The first verdict that holds of the best.
+pub fn judge(s: Setup, p: Point) -> Judged
+    ensures { λ r. ⌜ r ≡ judgedOf s p ⌝ }
+{
+    if wolfe(s, p) {
+        return Judged::Holds(Verdict::Wolfe);
+    }
+    if approximate(s, p) {
+        return Judged::Holds(Verdict::Approximate);
+    }
+    Judged::Fails
+}

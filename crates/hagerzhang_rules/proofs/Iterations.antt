@@ -1,0 +1,48 @@
+-- What a run of the rules does from one finished iteration to the next, said of each: `Arrives s P M n k asked r` says
+-- that a search that reports k and has asked these points in the iteration under way, newest first, arrives at r, and
+-- that wherever it goes from there each finished iteration meets P, each takes at most M answers, at most n more are
+-- begun (the start among them), every step is asked and every ending comes for its reason, and an answer that is not
+-- finite is refused (2) and the last. Once for the bracket, the origin of its ends, the bounds, the counts and the
+-- refusals. Assumes nothing.
+use mathlib.Core.Path.{_≡_}
+use mathlib.Core.Bool.{true, false}
+use mathlib.Core.List.{List, [], _∷_}
+use Prim.Native.Nat.{ℕ, suc, _+_, _≤_, _<_}
+use lib.ListN.{length}
+use lib.Ieee.{Float}
+use lib.Ieee.Scale.{finite}
+use Rattle.runs.specs.Outcomes.{Ending, refusal, Why, answerNotFinite}
+use Rattle.runs.specs.Asking.{ask, Search, over, reported}
+use Rattle.hagerzhang_rules.specs.declared.Point.{Point}
+use Rattle.hagerzhang_rules.specs.declared.Setup.{Setup}
+use Rattle.hagerzhang_rules.specs.Rules.{point, answerFinite, Last, Report, noneYet, last}
+use Rattle.hagerzhang_rules.specs.Iterations.{Asks, Ends, reportFinite}
+
+pub data Arrives (s : Setup) (P : Last → List Point → Last → Type 0) (M : ℕ) : ℕ → Report → List Point → Search Report
+    → Type 0 where
+  -- a step of the start is asked
+  starts : {n : ℕ} {asked : List Point} {x : Float} {then : Float → Float → Search Report}
+      → length asked < 3
+      → 3 ≤ M
+      → finite x ≡ true
+      → ((f g : Float) → answerFinite f g ≡ false → then f g ≡ over noneYet (refusal (answerNotFinite f g)))
+      → ((f g : Float) → Arrives s P M (suc n) noneYet (point x f g ∷ asked) (then f g))
+      → Arrives s P M (suc n) noneYet asked (ask noneYet x then)
+  -- the start is answered
+  begins : {n : ℕ} {q : Last} {asked : List Point} {r : Search Report}
+      → length asked ≤ 3 → reported r ≡ last q → q .iterations ≡ 0 → reportFinite (last q) ≡ true
+      → Arrives s P M n (last q) [] r → Arrives s P M (suc n) noneYet asked r
+  -- the search ends within the start or an iteration, and what was reported stays
+  ended : {n : ℕ} {k : Report} {asked : List Point} {e : Ending Why} → Ends s k asked e
+      → Arrives s P M n k asked (over k e)
+  -- a point is asked in the iteration under way
+  goes-on : {n : ℕ} {p : Last} {asked : List Point} {x : Float} {then : Float → Float → Search Report}
+      → length asked < M
+      → Asks s p asked x
+      → ((f g : Float) → answerFinite f g ≡ false → then f g ≡ over (last p) (refusal (answerNotFinite f g)))
+      → ((f g : Float) → Arrives s P M (suc n) (last p) (point x f g ∷ asked) (then f g))
+      → Arrives s P M (suc n) (last p) asked (ask (last p) x then)
+  -- the iteration is finished, and counted
+  finishes : {n : ℕ} {p q : Last} {asked : List Point} {r : Search Report}
+      → reported r ≡ last q → q .iterations ≡ p .iterations + 1 → reportFinite (last q) ≡ true → P p asked q
+      → Arrives s P M n (last q) [] r → Arrives s P M (suc n) (last p) asked r

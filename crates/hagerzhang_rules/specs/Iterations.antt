@@ -1,0 +1,166 @@
+-- Demand 3's words, over the rules of specs/Rules.antt: what was asked in an iteration, when it is finished and what it
+-- leaves; where U3 stands; and why a step is asked, or a search is over.
+use Prim.Native.Nat.{ℕ, suc, _+_, _*_, _≤_, _<_}
+use mathlib.Core.Path.{_≡_}
+use mathlib.Core.Bool.{Bool, true, false, _&&_}
+use mathlib.Core.List.{List, [], _∷_}
+use mathlib.Core.Logic.{_⊎_, inl, inr}
+use mathlib.Core.Option.{Option, some, none}
+use lib.ListN.{length}
+use lib.Ieee.{Float}
+use lib.Ieee.Scale.{finite}
+use Rattle.floats.specs.Arithmetic.{_<ᶠ_, _≤ᶠ_, _≥ᶠ_, 0ᶠ}
+use Rattle.runs.specs.Outcomes.{Ending, stop, limit, refusal, Why, answerNotFinite, stepNotFinite, budgetSpent, stepNotBetween, alreadyOver, verdictWord}
+use Rattle.runs.specs.declared.Verdict.{Verdict}
+use Rattle.runs.specs.Asking.{Run, ask, end}
+use Rattle.hagerzhang_rules.specs.declared.Point.{Point}
+use Rattle.hagerzhang_rules.specs.declared.Bracket.{Bracket}
+use Rattle.hagerzhang_rules.specs.declared.Setup.{Setup}
+use Rattle.hagerzhang_rules.specs.declared.Came.{Came}
+use Rattle.hagerzhang_rules.specs.declared.Came.the-variants.{To, On}
+use Rattle.hagerzhang_rules.specs.declared.Judged.the-variants.{Holds, Fails}
+use Rattle.hagerzhang_rules.specs.Rules.{point, answerFinite, updateOf, middleOf, narrowedOf, judgedOf, iteration, Last, Report, noneYet, last}
+
+-- ---- demand 3's three facts, and where a bracket lies
+
+-- "low slope < 0, low cost <= L (initial cost + epsilon_k, as computed) and high slope >= 0"
+pub record Premise (L : Float) (a b : Point) : Type 0 where
+  pub low-falls : a .g <ᶠ 0ᶠ ≡ true
+  pub low-cost : a .f ≤ᶠ L ≡ true
+  pub high-rises : b .g ≥ᶠ 0ᶠ ≡ true
+
+-- "the bracket meets the same three, low step < high step"
+pub record Bracketed (L : Float) (w : Bracket) : Type 0 where
+  pub three : Premise L (w .a) (w .b)
+  pub in-order : w .a .x <ᶠ w .b .x ≡ true
+
+-- "it lies within the former bracket"
+pub record Within (w u : Bracket) : Type 0 where
+  pub low-within : w .a .x ≤ᶠ u .a .x ≡ true
+  pub high-within : u .b .x ≤ᶠ w .b .x ≡ true
+
+-- ---- what is asked in an iteration
+
+-- how far a search is by its report: at 0 in its start, then 1 more than its finished iterations
+abbrev pub progress : Report → ℕ
+progress noneYet = 0
+progress (last p) = suc (p .iterations)
+
+-- ---- an iteration by itself: it comes to a refusal, or to the next bracket
+
+abbrev pub Alone : Type 0
+Alone = Run Report (Why ⊎ Bracket)
+
+abbrev pub alone : Setup → Report → Bracket → Alone
+alone s k w = iteration s inl k w (λ v. end (inr v))
+
+-- the points are asked of a run one after the other, newest first, and with their answers it comes to this
+pub data Plays (r : Alone) : List Point → Alone → Type 0 where
+  not-yet : Plays r [] r
+  then-asked : {asked : List Point} {k : Report} {x : Float} {then : Float → Float → Alone}
+      → Plays r asked (ask k x then) → (f g : Float) → Plays r (point x f g ∷ asked) (then f g)
+
+-- "Each end is, bit for bit, a former end or a step asked in that iteration with its answer."
+pub data OneOf (p : Point) : List Point → Type 0 where
+  here : {ps : List Point} → OneOf p (p ∷ ps)
+  there : {q : Point} {ps : List Point} → OneOf p ps → OneOf p (q ∷ ps)
+
+pub data Came-from (w : Bracket) (asked : List Point) (p : Point) : Type 0 where
+  former-low : p ≡ w .a → Came-from w asked p
+  former-high : p ≡ w .b → Came-from w asked p
+  asked-now : OneOf p asked → Came-from w asked p
+
+-- what a finished iteration leaves
+pub record Finished (s : Setup) (p : Last) (asked : List Point) (q : Last) : Type 0 where
+  -- its answers, and no others, lead 01's iteration on the former bracket to the new one
+  pub whole : Plays (alone s (last p) (p .bracket)) asked (end (inr (q .bracket)))
+  pub low-from : Came-from (p .bracket) asked (q .bracket .a)
+  pub high-from : Came-from (p .bracket) asked (q .bracket .b)
+  -- "an iteration takes at most 3+3B answers"
+  pub few : length asked ≤ 3 + 3 * s .options .budget
+
+-- what one answer brings: the report as it was; the first, with the start; or an iteration finished, and counted
+pub data Moves (P : Last → List Point → Last → Type 0) (asked : List Point) : Report → Report → Type 0 where
+  as-before : {k : Report} → Moves P asked k k
+  first : {q : Last} → q .iterations ≡ 0 → Moves P asked noneYet (last q)
+  one-more : {p q : Last} → q .iterations ≡ p .iterations + 1 → P p asked q → Moves P asked (last p) (last q)
+
+-- ---- where an iteration on w stands once these points are asked: at a bracket, or in U3 with its ends
+
+abbrev pub led : Setup → Option Came → Point → Option Came
+led s none d = none
+led s (some (To u)) d = updateOf (s .level) u d
+led s (some (On h k)) d = some (narrowedOf (s .level) h k d)
+
+unfoldable pub standing : Setup → Bracket → List Point → Option Came
+standing s w [] = some (To w)
+standing s w (d ∷ asked) = led s (standing s w asked) d
+
+-- how many answers the U3 run has had
+abbrev pub counts : Option Came → ℕ → ℕ
+counts none n = 0
+counts (some (To u)) n = 0
+counts (some (On h k)) n = suc n
+
+unfoldable pub had : Setup → Bracket → List Point → ℕ
+had s w [] = 0
+had s w (d ∷ asked) = counts (standing s w asked) (had s w asked)
+
+-- U3 stands between h and k, and its next step is d
+pub record InU3 (s : Setup) (w : Bracket) (asked : List Point) (h : Point) (k d : Float) : Type 0 where
+  pub stands : standing s w asked ≡ some (On h k)
+  pub answered : had s w asked < s .options .budget
+  pub next : d ≡ middleOf (s .options .params .theta) h k
+
+-- ---- why a step x is asked in an iteration that began with the report p and has asked these points: it is finite;
+-- 01's iteration alone asks it there; and in U3 it is strictly between the ends
+
+pub data Asks (s : Setup) (p : Last) (asked : List Point) (x : Float) : Type 0 where
+  trial : {u : Bracket} {then : Float → Float → Alone} → standing s (p .bracket) asked ≡ some (To u)
+      → Plays (alone s (last p) (p .bracket)) asked (ask (last p) x then)
+      → finite x ≡ true
+      → Asks s p asked x
+  inside : {h : Point} {k : Float} → InU3 s (p .bracket) asked h k x
+      → finite x ≡ true
+      → (h .x <ᶠ x && x <ᶠ k) ≡ true
+      → Asks s p asked x
+
+-- ---- why a search ended that keeps this report and has asked these points since
+
+pub data Ends (s : Setup) : Report → List Point → Ending Why → Type 0 where
+  -- "a stop with its verdict and step": of the best
+  verdict : {p : Last} {v : Verdict} → judgedOf s (p .best) ≡ Holds v
+      → Ends s (last p) [] (stop (verdictWord v) (p .best .x))
+  -- ""limit", with bracket and best of the N-th iteration"
+  at-limit : {p : Last} → judgedOf s (p .best) ≡ Fails → p .iterations ≡ s .options .limit
+      → Ends s (last p) [] (limit (p .best .x))
+  -- 2: the last answer
+  not-finite : {k : Report} {d : Point} {asked : List Point}
+      → answerFinite (d .f) (d .g) ≡ false → Ends s k (d ∷ asked) (refusal (answerNotFinite (d .f) (d .g)))
+  -- 5: of a trial, which is 01's own there, and in U3
+  trial-not-finite : {p : Last} {asked : List Point} {u : Bracket} {x : Float}
+      → standing s (p .bracket) asked ≡ some (To u)
+      → Plays (alone s (last p) (p .bracket)) asked (end (inl (stepNotFinite x)))
+      → finite x ≡ false
+      → Ends s (last p) asked (refusal (stepNotFinite x))
+  U3-not-finite : {p : Last} {asked : List Point} {h : Point} {k x : Float}
+      → InU3 s (p .bracket) asked h k x → finite x ≡ false → Ends s (last p) asked (refusal (stepNotFinite x))
+  -- 6: "one U3 run has had B answers and the last did not end it"
+  spent : {p : Last} {asked : List Point} {h : Point} {k : Float}
+      → standing s (p .bracket) asked ≡ some (On h k) → had s (p .bracket) asked ≡ s .options .budget
+      → Ends s (last p) asked (refusal (budgetSpent (h .x) k))
+  -- 7: "U3's next step is not strictly between its two ends"
+  not-between : {p : Last} {asked : List Point} {h : Point} {k x : Float}
+      → InU3 s (p .bracket) asked h k x → finite x ≡ true → (h .x <ᶠ x && x <ᶠ k) ≡ false
+      → Ends s (last p) asked (refusal (stepNotBetween (h .x) k x))
+  -- 8
+  already : {k : Report} {asked : List Point} → Ends s k asked (refusal alreadyOver)
+
+-- ---- every number that is reported is finite
+
+abbrev pub pointFinite : Point → Bool
+pointFinite p = finite (p .x) && finite (p .f) && finite (p .g)
+
+abbrev pub reportFinite : Report → Bool
+reportFinite noneYet = true
+reportFinite (last p) = pointFinite (p .bracket .a) && pointFinite (p .bracket .b) && pointFinite (p .best)

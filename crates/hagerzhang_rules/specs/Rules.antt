@@ -1,0 +1,237 @@
+-- 01, "Hager-Zhang rules", line by line: each rule once, as a decision; then the flow over them as a run of questions
+-- and answers. A point is (x, f, g): step, cost and slope. A bracket is (a, b). L is the setup's level. The types are
+-- declared in src/lib.rt, with their cases: what an answer comes to is `To` a bracket, or `On` in U3 with its ends h
+-- and k; a further trial is `At` a step, or there is `Nothing`; a verdict `Holds`, or it `Fails`. The marked sums M1 to
+-- M12 are proved of this text (proofs/MarkedSums.antt). specs/Iterations.antt has the words for what is proved of it
+-- along any answers.
+use Prim.Native.Nat.{ℕ, zero, suc, _+_}
+use mathlib.Core.Bool.{Bool, cond, _&&_, _||_}
+use mathlib.Core.Option.{Option, some, none}
+use lib.Ieee.{Float, binary64, ofBits}
+use lib.Ieee.Scale.{finite}
+use Rattle.floats.specs.Arithmetic.{_⊕_, _⊖_, _⊗_, _⊘_, _<ᶠ_, _≤ᶠ_, _>ᶠ_, _≥ᶠ_, 0ᶠ, 1ᶠ, 2ᶠ}
+use Rattle.numbers.specs.Numbers.{absOf}
+use Rattle.runs.specs.Outcomes.{verdictWord, stop, limit, Why, stepNotFinite, budgetSpent, stepNotBetween, unreachable}
+use Rattle.runs.specs.Asking.{Run, end, Search, over, keeping, question}
+use Rattle.runs.specs.declared.Verdict.the-variants.{Wolfe, Approximate}
+use Rattle.hagerzhang_rules.specs.declared.Point.{Point}
+use Rattle.hagerzhang_rules.specs.declared.Bracket.{Bracket}
+use Rattle.hagerzhang_rules.specs.declared.Setup.{Setup}
+use Rattle.hagerzhang_rules.specs.declared.Came.{Came}
+use Rattle.hagerzhang_rules.specs.declared.Came.the-variants.{To, On}
+use Rattle.hagerzhang_rules.specs.declared.Further.{Further}
+use Rattle.hagerzhang_rules.specs.declared.Further.the-variants.{Nothing, At}
+use Rattle.hagerzhang_rules.specs.declared.Judged.{Judged}
+use Rattle.hagerzhang_rules.specs.declared.Judged.the-variants.{Holds, Fails}
+
+abbrev pub point : Float → Float → Float → Point
+point x f g = record { x = x; f = f; g = g }
+
+abbrev pub bracket : Point → Point → Bracket
+bracket a b = record { a = a; b = b }
+
+-- "EPS = 2^-52"
+abbrev pub EPS : Float
+EPS = ofBits binary64 0x3cb0_0000_0000_0000
+
+abbrev pub answerFinite : Float → Float → Bool
+answerFinite f g = finite f && finite g
+
+-- ---- "Update of (a, b) with c"
+
+-- U0: "c.x <= a.x or c.x >= b.x: unchanged". U1: "c.g >= 0 (minus zero too): (a, c)". U2: "c.g < 0, c.f <= L: (c, b)".
+-- U3: "c.g < 0, c.f > L: ends h = a, k = c.x", and goes on. Where no guard holds the Rust ends with its error
+-- "unreachable point": `none`.
+unfoldable pub updateOf : Float → Bracket → Point → Option Came
+updateOf L w c =
+    cond (c .x ≤ᶠ w .a .x || c .x ≥ᶠ w .b .x) (some (To w))
+    (cond (c .g ≥ᶠ 0ᶠ) (some (To (bracket (w .a) c)))
+    (cond (c .g <ᶠ 0ᶠ && c .f ≤ᶠ L) (some (To (bracket c (w .b))))
+    (cond (c .g <ᶠ 0ᶠ && c .f >ᶠ L) (some (On (w .a) (c .x)))
+    none)))
+
+-- "Ask d.x = (1-theta)*h.x + theta*k."
+abbrev pub middleOf : Float → Point → Float → Float
+middleOf theta h k = (1ᶠ ⊖ theta) ⊗ h .x ⊕ theta ⊗ k
+
+-- "If d.g >= 0: (h, d). Else if d.f <= L: h = d. Else k = d.x. Repeat."
+unfoldable pub narrowedOf : Float → Point → Float → Point → Came
+narrowedOf L h k d =
+    cond (d .g ≥ᶠ 0ᶠ) (To (bracket h d))
+    (cond (d .f ≤ᶠ L) (On d k)
+    (On h (d .x)))
+
+-- ---- "Secant(p, q) = (p.x*q.g - q.x*p.g)/(q.g - p.g)."
+abbrev pub secantOf : Point → Point → Float
+secantOf p q = (p .x ⊗ q .g ⊖ q .x ⊗ p .g) ⊘ (q .g ⊖ p .g)
+
+-- ---- "Iteration on (a, b)": w is (a, b), u is (A, Z), cx is c.x, the step of S1
+
+abbrev pub near : Float → Float → Bool
+near x y = absOf (x ⊖ y) <ᶠ EPS
+
+-- a further trial, where the test holds
+abbrev pub when : Bool → Float → Further
+when test x = cond test (At x) Nothing
+
+abbrev pub orElse : Further → Further → Further
+orElse (At x) d = At x
+orElse Nothing d = d
+
+-- "S2: if |c.x - Z.x| < EPS, e = secant(b, Z)."
+unfoldable pub S2 : Bracket → Float → Bracket → Further
+S2 w cx u = when (near cx (u .b .x)) (secantOf (w .b) (u .b))
+
+-- "S3: if |c.x - A.x| < EPS, e = secant(a, A), overwriting S2's."
+unfoldable pub S3 : Bracket → Float → Bracket → Further
+S3 w cx u = when (near cx (u .a .x)) (secantOf (w .a) (u .a))
+
+-- "S4: if either held, ask e and update (A, Z) with it." "In S2 and S3 only the final e is tested for refusal 5."
+abbrev pub S4 : Bracket → Float → Bracket → Further
+S4 w cx u = orElse (S3 w cx u) (S2 w cx u)
+
+-- "L2: if Z.x - A.x > gamma*(b.x - a.x), ask (A.x + Z.x)/2 and update."
+unfoldable pub L2 : Float → Bracket → Bracket → Further
+L2 gamma w u = when (u .b .x ⊖ u .a .x >ᶠ gamma ⊗ (w .b .x ⊖ w .a .x)) ((u .a .x ⊕ u .b .x) ⊘ 2ᶠ)
+
+-- ---- "Best: if a.f <= b.f and a.f <= c.f take a; then b by the same test, overriding; then c, overriding."
+
+abbrev pub lowest : Point → Point → Point → Bool
+lowest p q r = p .f ≤ᶠ q .f && p .f ≤ᶠ r .f
+
+unfoldable pub bestOver : Point → Point → Point → Point → Point
+bestOver old a b c = cond (lowest c a b) c (cond (lowest b a c) b (cond (lowest a b c) a old))
+
+-- 01 says nothing for the case that no test holds. With finite costs one always does (`best-is-one`, proofs/Best.antt),
+-- and every reported point is finite, so the a in that place is never seen.
+abbrev pub bestOf : Point → Point → Point → Point
+bestOf a b c = bestOver a a b c
+
+-- ---- "Verdict, first that holds"
+
+-- ""wolfe" if best.f - f0 <= (delta*best.x)*s0 and best.g >= sigma*s0"
+abbrev pub wolfeHolds : Setup → Point → Bool
+wolfeHolds s p =
+    (p .f ⊖ s .f0 ≤ᶠ (s .options .params .delta ⊗ p .x) ⊗ s .s0) && (p .g ≥ᶠ s .options .params .sigma ⊗ s .s0)
+
+-- ""approximate" if (2*delta - 1)*s0 >= best.g, best.g >= sigma*s0 and best.f <= L"
+abbrev pub approximateHolds : Setup → Point → Bool
+approximateHolds s p =
+    ((2ᶠ ⊗ s .options .params .delta ⊖ 1ᶠ) ⊗ s .s0 ≥ᶠ p .g) && (p .g ≥ᶠ s .options .params .sigma ⊗ s .s0)
+    && (p .f ≤ᶠ s .level)
+
+unfoldable pub judgedOf : Setup → Point → Judged
+judgedOf s p = cond (wolfeHolds s p) (Holds Wolfe) (cond (approximateHolds s p) (Holds Approximate) Fails)
+
+-- ---- the flow. `kept`, of any type K, is what is reported meanwhile; a refusal comes to `refuse` of its reason;
+-- `then` goes on with what was reached. From outside, these rules take s, refuse and kept first:
+-- `iteration s refuse kept w then`.
+
+module _ {K R : Type 0} (s : Setup) (refuse : Why → R) (kept : K) where
+  abbrev pub asking : Float → (Point → Run K R) → Run K R
+  asking x then = question answerFinite refuse kept x (λ f g. then (point x f g))
+
+  -- 01, refusal 5: "the next trial step comes out not finite; nothing is asked"
+  unfoldable pub trial : Float → (Point → Run K R) → Run K R
+  trial x then = cond (finite x) (asking x then) (end (refuse (stepNotFinite x)))
+
+  -- 5, then 7: "U3's next step is not strictly between its two ends; nothing is asked"
+  unfoldable pub between : Point → Float → Float → (Point → Run K R) → Run K R
+  between h k x then =
+      cond (finite x)
+      (cond (h .x <ᶠ x && x <ᶠ k) (asking x then) (end (refuse (stepNotBetween (h .x) k x))))
+      (end (refuse (stepNotFinite x)))
+
+  -- U3 while n answers may come; where U0 to U2, or the last answer, came `To` a bracket, there is nothing to ask. 6:
+  -- "one U3 run has had B answers and the last did not end it", before 5 and 7
+  unfoldable pub U3 : ℕ → Came → (Bracket → Run K R) → Run K R
+  U3 zero (To u) then = then u
+  U3 zero (On h k) then = end (refuse (budgetSpent (h .x) k))
+  U3 (suc n) (To u) then = then u
+  U3 (suc n) (On h k) then =
+      between h k (middleOf (s .options .params .theta) h k) λ d.
+      U3 n (narrowedOf (s .level) h k d) then
+
+  unfoldable pub updating : Option Came → (Bracket → Run K R) → Run K R
+  updating (some came) then = U3 (s .options .budget) came then
+  updating none then = end (refuse unreachable)
+
+  abbrev pub update : Bracket → Point → (Bracket → Run K R) → Run K R
+  update w c then = updating (updateOf (s .level) w c) then
+
+  -- a further trial, if there is one, and the update with it
+  unfoldable pub further : Further → Bracket → (Bracket → Run K R) → Run K R
+  further Nothing u then = then u
+  further (At x) u then = trial x λ c. update u c then
+
+  -- L2 after S1 to S4 came to v. "L3: keep the result": `then` has it
+  unfoldable pub afterS4 : Bracket → Bracket → (Bracket → Run K R) → Run K R
+  afterS4 w v then = further (L2 (s .options .params .gamma) w v) v then
+
+  -- S4 after S1, at the step cx, came to u
+  unfoldable pub afterS1 : Bracket → Float → Bracket → (Bracket → Run K R) → Run K R
+  afterS1 w cx u then = further (S4 w cx u) u λ v. afterS4 w v then
+
+  -- "S1: c.x = secant(a, b), ask, update to (A, Z)"
+  unfoldable pub iteration : Bracket → (Bracket → Run K R) → Run K R
+  iteration w then =
+      trial (secantOf (w .a) (w .b)) λ c.
+      update w c λ u.
+      afterS1 w (c .x) u then
+
+-- ---- what is reported: "During the first three answers there is no bracket and no best"; then those of the last
+-- finished iteration, or the start
+
+pub record Last : Type 0 where
+  pub bracket : Bracket
+  pub best : Point
+  pub iterations : ℕ
+
+-- with `noneYet` no iteration is finished either. Evaluations are not reported here: they are counted over all
+-- answers, by `tallied` of outcomes/specs/Asking.antt
+pub data Report : Type 0 where
+  noneYet : Report
+  last : Last → Report
+
+abbrev pub iterationsIn : Report → ℕ
+iterationsIn noneYet = 0
+iterationsIn (last p) = p .iterations
+
+-- a verdict stops the search at the best step; with none it goes on
+unfoldable pub decided : Report → Float → Search Report → Judged → Search Report
+decided kept x go (Holds v) = over kept (stop (verdictWord v) x)
+decided kept x go Fails = go
+
+-- "This c is always the start step, never a later trial": `start` is the point there, w the bracket, i the number of
+-- finished iterations
+module _ (s : Setup) where
+  abbrev pub reportOf : Bracket → Point → ℕ → Report
+  reportOf w start i = last (record { bracket = w; best = bestOf (w .a) (w .b) start; iterations = i })
+
+  -- "Then best, then verdict."
+  unfoldable pub verdict : Bracket → Point → ℕ → Search Report → Search Report
+  verdict w start i go =
+      let best = bestOf (w .a) (w .b) start in
+      decided (reportOf w start i) (best .x) go (judgedOf s best)
+
+  -- "After an iteration the verdict is tested first, then the limit; only then is the next step worked out .." n
+  -- iterations may still be begun.
+  unfoldable pub rounds : ℕ → Bracket → Point → ℕ → Search Report
+  rounds zero w start i =
+      let best = bestOf (w .a) (w .b) start in
+      verdict w start i (over (reportOf w start i) (limit (best .x)))
+  rounds (suc n) w start i =
+      let kept = reportOf w start i in
+      verdict w start i (iteration s (keeping kept) kept w λ v. rounds n v start (i + 1))
+
+  -- "Start: ask a = min, b = max, c = start step, in that order." Written from its end: `search` asks min and goes on
+  -- with `askHigh`, that asks max and goes on with `askStart`, and that asks the start step and goes on with the
+  -- verdict on (a, b). Nothing is reported yet.
+  unfoldable pub askStart : Bracket → Search Report
+  askStart w = asking s (keeping noneYet) noneYet (s .options .params .start) λ c. rounds (s .options .limit) w c 0
+
+  unfoldable pub askHigh : Point → Search Report
+  askHigh a = asking s (keeping noneYet) noneYet (s .options .params .max) λ b. askStart (bracket a b)
+
+  unfoldable pub search : Search Report
+  search = asking s (keeping noneYet) noneYet (s .options .params .min) λ a. askHigh a

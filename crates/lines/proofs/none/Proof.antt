@@ -1,0 +1,14 @@
+-- `lines::none` meets its contract. Assumes nothing.
+use borrow.Author.Needs.{needs}
+use Rattle.text.proofs.Writing.{then}
+use Rattle.lines.proofs.none.Statement.{statement}
+use Rattle.lines.proofs.none.Tie as tie
+
+pub none-spec : {M : Type 1} → statement M
+none-spec =
+    tie.close
+    (tie.spec
+    (λ c. search needs) (λ c κs. search needs) (λ c κs. search needs) (λ c. search needs)
+    (λ c.
+    let k = c .before .before in
+    then _ _ _ (k .before .before .before .before .word .ensures) (k .counts .ensures)))

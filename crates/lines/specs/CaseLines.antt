@@ -1,0 +1,22 @@
+-- The lines of the program `cases` beside those of outcomes and the closing ones. Each ends with a newline.
+use Prim.Native.Nat.{ℕ}
+use mathlib.Core.List.{List, [], _∷_}
+use lib.Ieee.{Float}
+use Rattle.text.specs.Text.{bytes}
+use Rattle.text.specs.Figures.{floatsLine, numberLine}
+
+-- docs/FORMATS.md: `CASE k`, "k counts from 1"
+abbrev pub caseLine : ℕ → List ℕ
+caseLine k = numberLine (bytes "CASE ") k
+
+-- `MALFORMED at b`: "b is the byte, counted from 0, where that field began"
+abbrev pub malformedLine : ℕ → List ℕ
+malformedLine b = numberLine (bytes "MALFORMED at ") b
+
+-- a dot: `VALUE h`
+abbrev pub valueLine : Float → List ℕ
+valueLine x = floatsLine (bytes "VALUE") (x ∷ [])
+
+-- a point: "`OUT` and the buffer's numbers, each behind a blank"
+abbrev pub outLine : List Float → List ℕ
+outLine xs = floatsLine (bytes "OUT") xs

@@ -1,4 +1,0 @@
-pub mod AtZero
-pub mod Refusals
-pub mod Begins
-pub mod Determined

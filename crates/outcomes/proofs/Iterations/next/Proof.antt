@@ -1,6 +1,0 @@
--- `outcomes::Iterations::next` meets its contract. Assumes nothing.
-use Rattle.outcomes.proofs.Iterations.next.Statement.{statement}
-use Rattle.outcomes.proofs.Iterations.next.Tie as tie
-
-pub next-spec : {M : Type 1} → statement M
-next-spec = tie.close (tie.spec (λ c κs. tt) (λ c. rw (c .one-more .ensures)))

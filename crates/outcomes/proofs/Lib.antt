@@ -1,7 +1,0 @@
-pub mod Branches
-pub mod Accepted
-pub mod Ends
-pub mod Machines
-pub mod Determined
-pub mod Refusals
-pub mod Apart

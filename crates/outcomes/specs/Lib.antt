@@ -1,4 +1,0 @@
-pub mod Outcomes
-pub mod Asking
-pub mod Counters
-pub mod Refusals

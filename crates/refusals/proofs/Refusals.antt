@@ -1,0 +1,78 @@
+-- A table of refusals read both ways: a number is given exactly when its row is the first whose condition holds. Once
+-- for every table. Assumes nothing.
+use Prim.Native.Nat.{ℕ}
+use mathlib.Core.Path.{_≡_, refl, sym, ap}
+use mathlib.Core.Bool.{Bool, true, false, cond}
+use mathlib.Core.List.{List, [], _∷_}
+use mathlib.Core.Option.{some, Option·none-ne-some, Option·some-injective}
+use Rattle.refusals.specs.Results.{Result, value, refused, Row, refuse_else_}
+use Rattle.refusals.specs.Refusals.{given, refusedBy}
+use Rattle.floats.proofs.Branches.{by-test}
+
+-- n's row is the first whose condition holds
+pub data First (n : ℕ) : List Row → Type 0 where
+  this : {m : ℕ} {c : Bool} {rows : List Row} → m ≡ n → c ≡ true → First n ((m, c) ∷ rows)
+  later : {m : ℕ} {c : Bool} {rows : List Row} → c ≡ false → First n rows → First n ((m, c) ∷ rows)
+
+-- the condition gives the number
+pub first-given : {n : ℕ} {rows : List Row} → First n rows → given rows ≡ some n
+unfolding given
+first-given (this e c) = rw (c, e)
+first-given (later c f) = rw c (first-given f)
+
+by-row : (n m : ℕ) (c : Bool) (rows : List Row) → (given rows ≡ some n → First n rows) → (b : Bool) → c ≡ b
+    → cond b (some m) (given rows) ≡ some n → First n ((m, c) ∷ rows)
+by-row n m c rows go true t e = this (Option·some-injective m n e) t
+by-row n m c rows go false t e = later t (go e)
+
+-- and the number is given only then
+pub given-first : (n : ℕ) (rows : List Row) → given rows ≡ some n → First n rows
+unfolding given
+given-first n [] e = absurd (Option·none-ne-some n e)
+given-first n (r ∷ rows) e = by-row n (r .0) (r .1) rows (given-first n rows) (r .1) refl e
+
+-- ---- a result by a table
+module _ {A : Type 0} where
+  -- its number is the first row's that holds
+  pub by-rows : (rows : List Row) (a : A) → refusedBy (refuse rows else a) ≡ given rows
+  unfolding given
+  by-rows [] a = refl
+  by-rows (r ∷ rows) a = by-test refusedBy (r .1) _ _ (some (r .0)) (given rows) refl (by-rows rows a)
+
+-- no row holds
+pub data Passed : List Row → Type 0 where
+  all : Passed []
+  and : {n : ℕ} {c : Bool} {rows : List Row} → c ≡ false → Passed rows → Passed ((n, c) ∷ rows)
+
+module _ {A : Type 0} where
+  not-refused : (n : ℕ) (a : A) → refused n ≡ value a → ⊥
+  not-refused n a e = Option·none-ne-some n (sym (ap refusedBy e))
+
+  same-value : (a b : A) → value a ≡ value b → a ≡ b
+  same-value a b e = cc
+
+  by-row-passed : (r : Row) (rows : List Row) (a b : A) → ((refuse rows else a) ≡ value b → Passed rows × (a ≡ b))
+      → (c : Bool) → r .1 ≡ c → cond c (refused (r .0)) (refuse rows else a) ≡ value b → Passed (r ∷ rows) × (a ≡ b)
+  by-row-passed r rows a b go true t e = absurd (not-refused (r .0) b e)
+  by-row-passed r rows a b go false t e = let p = go e in (and t (p .0), p .1)
+
+  -- where there is a value, no row held, and it is the one behind the rows
+  pub passed : (rows : List Row) (a b : A) → (refuse rows else a) ≡ value b → Passed rows × (a ≡ b)
+  passed [] a b e = (all, same-value a b e)
+  passed (r ∷ rows) a b e = by-row-passed r rows a b (passed rows a b) (r .1) refl e
+
+  -- and where no row holds, it is
+  pub value-given : (rows : List Row) (a : A) → Passed rows → (refuse rows else a) ≡ value a
+  value-given [] a all = refl
+  value-given (r ∷ rows) a (and t p) = rw t (value-given rows a p)
+
+-- two results by the same rows, each read in its way: alike where the values are, and every refusal
+pub alike : {A B T : Type 0} (h : Result A → T) (k : Result B → T) → ((n : ℕ) → h (refused n) ≡ k (refused n))
+    → (a : A) (b : B) → h (value a) ≡ k (value b) → (rows : List Row) → h (refuse rows else a) ≡ k (refuse rows else b)
+alike h k same a b e [] = e
+alike h k same a b e (r ∷ rows) = by (r .1) (alike h k same a b e rows)
+  where
+    by : (c : Bool) → h (refuse rows else a) ≡ k (refuse rows else b)
+        → h (cond c (refused (r .0)) (refuse rows else a)) ≡ k (cond c (refused (r .0)) (refuse rows else b))
+    by true p = same (r .0)
+    by false p = p

@@ -1,0 +1,5 @@
+pub mod Accepted
+pub mod Ends
+pub mod Machines
+pub mod Determined
+pub mod Apart

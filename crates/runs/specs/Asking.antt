@@ -1,0 +1,101 @@
+-- 01, "What changes shape": "the search hands out a request and is given the answer .. One ask covers cost and slope."
+-- The rules of a search are written as a run: it asks for cost and slope at a step and goes on by the answer, until it
+-- has a result.
+use Prim.Native.Nat.{ℕ, _+_}
+use mathlib.Core.Bool.{Bool, true, false, cond, _&&_}
+use mathlib.Core.List.{List, [], _∷_}
+use mathlib.Core.Option.{Option, some, none}
+use lib.Ieee.{Float}
+use Rattle.refusals.specs.Results.{Result, value, refused}
+use Rattle.runs.specs.Outcomes.{Ending, refusal, Told, asks, ends, Why, answerNotFinite, alreadyOver, numbered}
+
+-- K is what is reported while an answer is awaited, R what the run comes to
+pub data Run (K R : Type 0) : Type 0 where
+  ask : K → Float → (Float → Float → Run K R) → Run K R
+  end : R → Run K R
+
+-- a whole search: at its end it keeps what it then reports, and says how it ended; a refusal carries its reason
+pub record Over (K : Type 0) : Type 0 where
+  pub keeps : K
+  pub by : Ending Why
+
+abbrev pub Search : Type 0 → Type 0
+Search K = Run K (Over K)
+
+abbrev pub over : {K : Type 0} → K → Ending Why → Search K
+over k e = end (record { keeps = k; by = e })
+
+-- over by a refusal, keeping what was reported
+abbrev pub keeping : {K : Type 0} → K → Why → Over K
+keeping k why = record { keeps = k; by = refusal why }
+
+-- an answer: cost and slope
+abbrev pub Reply : Type 0
+Reply = Float × Float
+
+module _ {K : Type 0} where
+  -- 01, refusal 8: a search that is over refuses whatever is said to it, and reports what it did ("state unchanged")
+  unfoldable pub respond : Search K → Float → Float → Search K
+  respond (ask k x then) f g = then f g
+  respond (end o) f g = over (o .keeps) (refusal alreadyOver)
+
+  -- what a search tells when it has come here, a refusal by its number, and what it reports
+  unfoldable pub shown : Search K → Told
+  shown (ask k x then) = asks x
+  shown (end o) = ends (numbered (o .by))
+
+  unfoldable pub reported : Search K → K
+  reported (ask k x then) = k
+  reported (end o) = o .keeps
+
+  -- the step at which an answer is awaited
+  unfoldable pub awaits : Search K → Option Float
+  awaits (ask k x then) = some x
+  awaits (end o) = none
+
+  unfoldable pub isOver : Search K → Bool
+  isOver (ask k x then) = false
+  isOver (end o) = true
+
+  -- what is left of a search once it has told its outcome: where it ended, it refuses whatever is said to it (8). A
+  -- state of the machine stands for this
+  unfoldable pub onceTold : Search K → Search K
+  onceTold (ask k x then) = ask k x then
+  onceTold (end o) = over (o .keeps) (refusal alreadyOver)
+
+  -- what a start tells: the first step, or the refusal
+  abbrev pub firstOf : Result (Search K) → Told
+  firstOf (value r) = shown r
+  firstOf (refused n) = ends (refusal n)
+
+  -- ---- for any list of answers: what they bring, and where they lead
+
+  unfoldable pub outcomes : Search K → List Reply → List Told
+  outcomes r [] = []
+  outcomes r (y ∷ ys) = shown (respond r (y .0) (y .1)) ∷ outcomes (respond r (y .0) (y .1)) ys
+
+  unfoldable pub after : Search K → List Reply → Search K
+  after r [] = r
+  after r (y ∷ ys) = after (respond r (y .0) (y .1)) ys
+
+-- 01, refusal 2: a step is asked; an answer that is not finite, by the search's test, is refused
+module _ {K R : Type 0} (isFinite : Float → Float → Bool) (refuse : Why → R) (k : K) where
+  abbrev pub question : Float → (Float → Float → Run K R) → Run K R
+  question x then = ask k x (λ f g. cond (isFinite f g) (then f g) (end (refuse (answerNotFinite f g))))
+
+-- ---- a machine with states S, of which `next` gives the next state: the same for any list of answers
+module _ {S : Type 0} (next : S → Float → Float → S) where
+  unfoldable pub reached : S → List Reply → S
+  reached s [] = s
+  reached s (y ∷ ys) = reached (next s (y .0) (y .1)) ys
+
+  -- what is told, by `says`
+  unfoldable pub played : (S → Float → Float → Told) → S → List Reply → List Told
+  played says s [] = []
+  played says s (y ∷ ys) = says s (y .0) (y .1) ∷ played says (next s (y .0) (y .1)) ys
+
+  -- how many of the answers are given while it asks, and pass the test
+  unfoldable pub tallied : (S → Bool) → (Float → Float → Bool) → S → List Reply → ℕ
+  tallied asking test s [] = 0
+  tallied asking test s (y ∷ ys) =
+      cond (asking s && test (y .0) (y .1)) 1 0 + tallied asking test (next s (y .0) (y .1)) ys
