@@ -11,8 +11,8 @@ use borrow.Author.Tests.{le-leb, lt-leb}
 use Rattle.floats.specs.Arithmetic.{_⊗_}
 use Rattle.refusals.specs.Results.{Result, value, refused}
 use Rattle.runs.specs.Outcomes.{met, stop, limit, refusal, Told, asks, ends, told, answerNotFinite, stepNotFinite}
-use Rattle.runs.specs.Asking.{Search, ask, over, respond, shown, onceTold, firstOf}
-use Rattle.runs.specs.Counters.{counted, iterations}
+use Rattle.runs.specs.Asking.{Rest, ask, endWith, respond, shown, onceTold, firstOf}
+use Rattle.runs.specs.Counters.{oneMore, iterations}
 use Rattle.runs.proofs.Machines.{Seen, seen, picks, counts-on}
 use Rattle.refusals.proofs.Refusals.{alike}
 use Rattle.runs.specs.declared.Evaluations.{Evaluations}
@@ -25,7 +25,7 @@ use Rattle.backtracking.specs.declared.Setup.{Setup}
 use Rattle.backtracking.specs.declared.Stage.{Stage}
 use Rattle.backtracking.specs.declared.Stage.the-variants.{First, Later, Over}
 use Rattle.backtracking.specs.declared.Backtracking.{Backtracking}
-use Rattle.backtracking.specs.declared.Step.{Step}
+use Rattle.backtracking.specs.declared.Turn.{Turn}
 use Rattle.backtracking.specs.declared.Started.{Started}
 use Rattle.backtracking.specs.declared.Started.the-variants.{Began, NoSearch}
 use Rattle.backtracking.specs.Backtracking.{startRows, trials, search, started}
@@ -34,12 +34,12 @@ use Rattle.backtracking.specs.Meaning.{meaning, meant, Starts, Follows}
 
 -- ---- one answer
 
-abbrev denote : Step → Seen ℕ
+abbrev denote : Turn → Seen ℕ
 denote t = (meant (t .search), told (t .outcome))
 
 -- a trial is a question at its step
 pub question-at : (s : Setup) (k before now : ℕ) (t : Float)
-    → (then : Float → Float → Search ℕ) × (trials s k before now t ≡ ask before t then)
+    → (then : Float → Float → Rest ℕ) × (trials s k before now t ≡ ask before t then)
 unfolding trials
 question-at s zero before now t = (_, refl)
 question-at s (suc k) before now t = (_, refl)
@@ -59,21 +59,21 @@ module _ (s : Setup) (fits : s .limit < 4294967296) (m : Evaluations) (now : Ite
   next-step = t ⊗ s .rho
 
   -- what follows a trial that did not meet the condition, while k trials may follow
-  further : ℕ → Search ℕ
-  further zero = over (now .0) (limit t)
+  further : ℕ → Rest ℕ
+  further zero = endWith (now .0) (limit t)
   further (suc k) =
       cond (finite next-step) (trials s k (now .0) (now .0 + 1) next-step)
-      (over (now .0) (refusal (stepNotFinite next-step)))
+      (endWith (now .0) (refusal (stepNotFinite next-step)))
 
   -- and of the machine
-  abbrev further-step : Step
+  abbrev further-step : Turn
   further-step =
       cond (leb (s .limit) (now .0)) (madeOf s m now Over (Limit t))
       (cond (finite next-step) (madeOf s m now (Later next-step) (Ask next-step))
       (madeOf s m now Over (Refused StepNotFinite)))
 
   ended : denote (madeOf s m now Over (Refused StepNotFinite))
-      ≡ seen (over (now .0) (refusal (stepNotFinite next-step)))
+      ≡ seen (endWith (now .0) (refusal (stepNotFinite next-step)))
   unfolding seen onceTold shown meaning
   ended = refl
 
@@ -81,20 +81,20 @@ module _ (s : Setup) (fits : s .limit < 4294967296) (m : Evaluations) (now : Ite
   unfolding further seen onceTold shown meaning
   goes-on zero e = rw (le-leb (s .limit) (now .0) (omega arith))
   goes-on (suc k) e =
-      let c : counted (now .0) ≡ now .0 + 1 = counts-on (now .0) (s .limit) fits (omega arith) in
+      let c : oneMore (now .0) ≡ now .0 + 1 = counts-on (now .0) (s .limit) fits (omega arith) in
       let d : s .limit - (now .0 + 1) ≡ k = omega arith in
       rw (lt-leb (s .limit) (now .0) (omega arith))
       (picks denote (finite next-step) _ _ _ _
       (rw (c, d) (sym (asked s k (now .0) (now .0 + 1) next-step)))
       ended)
 
-  meets : denote (madeOf s m now Over (Stop Met t)) ≡ seen (over (now .0) (stop met t))
+  meets : denote (madeOf s m now Over (Stop Met t)) ≡ seen (endWith (now .0) (stop met t))
   unfolding seen onceTold shown meaning
   meets = refl
 
   refuses : (n : Evaluations) (before : Iterations) (f g : Float)
       → denote (madeOf s n before Over (Refused SuppliedNotFinite))
-      ≡ seen (over (before .0) (refusal (answerNotFinite f g)))
+      ≡ seen (endWith (before .0) (refusal (answerNotFinite f g)))
   unfolding seen onceTold shown meaning
   refuses n before f g = refl
 
@@ -121,7 +121,7 @@ unfolding answerBy triedOf meaning
 answers-by s h f g First e =
     tests (s .setup) h _ (s .iterations) (s .setup .alpha) (s .evaluations) (s .iterations) f g _ refl
 answers-by s h f g (Later t) e =
-    tests (s .setup) h _ (iterations (counted (s .iterations .0))) t (s .evaluations) (s .iterations) f g _ refl
+    tests (s .setup) h _ (iterations (oneMore (s .iterations .0))) t (s .evaluations) (s .iterations) f g _ refl
 answers-by s h f g Over e = unfold seen respond onceTold shown in rw e
 
 -- every answer to every state
@@ -129,7 +129,7 @@ pub answers : (s : Backtracking) → s .setup .limit < 4294967296 → (f g : Flo
     → denote (answerOf s f g) ≡ seen (respond (meant s) f g)
 answers s h f g = answers-by s h f g (s .stage) refl
 
-pub follows : (s : Backtracking) → s .setup .limit < 4294967296 → (f g : Float) (r : Step)
+pub follows : (s : Backtracking) → s .setup .limit < 4294967296 → (f g : Float) (r : Turn)
     → AnswerSaid s f g r → Follows s f g r
 unfolding seen
 follows s h f g r e =
@@ -137,7 +137,7 @@ follows s h f g r e =
     record { tells = ap (λ (p : Seen ℕ). p .1) z; leaves = ap (λ (p : Seen ℕ). p .0) z }
 
 -- what `answer` promises of its result
-pub promised : (s : Backtracking) → s .setup .limit < 4294967296 → (f g : Float) (r : Step)
+pub promised : (s : Backtracking) → s .setup .limit < 4294967296 → (f g : Float) (r : Turn)
     → AnswerSaid s f g r → AnswerSaid s f g r × Follows s f g r
 promised s h f g r e = (e, follows s h f g r e)
 
@@ -148,11 +148,11 @@ unfolding meaning
 starts-whole s = let e : s .limit - 0 ≡ s .limit = omega arith in rw e
 
 -- what a result of a start stands for, and what it says
-unfoldable pub stands : Result Step → Result (Search ℕ)
+unfoldable pub stands : Result Turn → Result (Rest ℕ)
 stands (value t) = value (meant (t .search))
 stands (refused n) = refused n
 
-unfoldable pub says : Result Step → Told
+unfoldable pub says : Result Turn → Told
 says (value t) = told (t .outcome)
 says (refused n) = ends (refusal n)
 

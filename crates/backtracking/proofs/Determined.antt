@@ -7,12 +7,12 @@ use Rattle.floats.proofs.Determined.{determined}
 use Rattle.refusals.proofs.Determined.{withNumber, number-back}
 use Rattle.backtracking.specs.declared.Setup.{Setup}
 use Rattle.backtracking.specs.declared.Backtracking.{Backtracking}
-use Rattle.backtracking.specs.declared.Step.{Step}
+use Rattle.backtracking.specs.declared.Turn.{Turn}
 use Rattle.backtracking.specs.declared.Started.{Started}
 use Rattle.backtracking.specs.declared.Started.the-variants.{Began, NoSearch}
 use Rattle.backtracking.specs.Machine.{startedTold, StartSaid, AnswerSaid}
 
-read : Result Step → Started
+read : Result Turn → Started
 read (value t) = Began t
 read (refused n) = NoSearch (withNumber n)
 
@@ -24,5 +24,5 @@ back (NoSearch k) = ap NoSearch (number-back k)
 pub start-determined : (s : Setup) (r q : Started) → StartSaid s r → StartSaid s q → r ≡ q
 start-determined s r q e e' = determined startedTold read back r q (e ∙ sym e')
 
-pub answer-determined : (s : Backtracking) (f g : Float) (r q : Step) → AnswerSaid s f g r → AnswerSaid s f g q → r ≡ q
+pub answer-determined : (s : Backtracking) (f g : Float) (r q : Turn) → AnswerSaid s f g r → AnswerSaid s f g q → r ≡ q
 answer-determined s f g r q e e' = e ∙ sym e'

@@ -14,8 +14,8 @@ use Rattle.floats.specs.Arithmetic.{_⊗_, _<ᶠ_, 1ᶠ}
 use Rattle.runs.specs.Outcomes.{met, stop, limit, refusal, asks, ends, told}
 use Rattle.runs.specs.Outcomes.{answerNotFinite, stepNotFinite}
 use Rattle.refusals.specs.Refusals.{numberOf}
-use Rattle.runs.specs.Asking.{Search, over, respond, shown, reported, isOver, onceTold}
-use Rattle.runs.specs.Counters.{counted}
+use Rattle.runs.specs.Asking.{Rest, endWith, respond, shown, reported, isOver, onceTold}
+use Rattle.runs.specs.Counters.{oneMore}
 use Rattle.refusals.specs.Refusals.{refusedBy}
 use Rattle.floats.proofs.Branches.{and-first, and-second}
 use Rattle.refusals.proofs.Refusals.{Passed, all, and, passed, value-given}
@@ -26,7 +26,7 @@ use Rattle.conditions.specs.Conditions.{answerFinite, holdsOf}
 use Rattle.backtracking.specs.declared.Setup.{Setup}
 use Rattle.backtracking.specs.declared.Stage.the-variants.{First, Later}
 use Rattle.backtracking.specs.declared.Backtracking.{Backtracking}
-use Rattle.backtracking.specs.declared.Step.{Step}
+use Rattle.backtracking.specs.declared.Turn.{Turn}
 use Rattle.backtracking.specs.declared.Started.the-variants.{Began, NoSearch}
 use Rattle.backtracking.specs.Backtracking.{defaultsOf, limitInRange, parametersInRange, inRanges, startRows}
 use Rattle.backtracking.specs.Backtracking.{trials, search}
@@ -49,7 +49,7 @@ pub record Waits (s : Setup) (x : Float) (b : Backtracking) : Type 0 where
   pub stands : meant b ≡ trials s left before now x
 
 -- what `start` gives, by its clause `rules`; and any state that is not over
-pub begun-waits : (s : Setup) (t : Step) → Starts s (Began t) → Waits s (s .alpha) (t .search)
+pub begun-waits : (s : Setup) (t : Turn) → Starts s (Began t) → Waits s (s .alpha) (t .search)
 begun-waits s t starts = record {
   left = s .limit;
   before = 0;
@@ -69,23 +69,23 @@ first-waits b e = record {
 pub later-waits : (b : Backtracking) (t : Float) → b .stage ≡ Later t → Waits (b .setup) t b
 unfolding meaning
 later-waits b t e = record {
-  left = b .setup .limit - counted (b .iterations .0);
+  left = b .setup .limit - oneMore (b .iterations .0);
   before = b .iterations .0;
-  now = counted (b .iterations .0);
+  now = oneMore (b .iterations .0);
   stands = ap (meaning (b .setup) (b .iterations .0)) e;
 }
 
 -- ---- what the rules do at an answer
 
 -- what an answer to the trial at x can come to
-data Comes (s : Setup) (now : ℕ) (x f g : Float) : Search ℕ → Type 0 where
+data Comes (s : Setup) (now : ℕ) (x f g : Float) : Rest ℕ → Type 0 where
   not-finite : (before : ℕ) → answerFinite (s .condition) f g ≡ false
-      → Comes s now x f g (over before (refusal (answerNotFinite f g)))
-  meets : Comes s now x f g (over now (stop met x))
-  at-limit : Comes s now x f g (over now (limit x))
+      → Comes s now x f g (endWith before (refusal (answerNotFinite f g)))
+  meets : Comes s now x f g (endWith now (stop met x))
+  at-limit : Comes s now x f g (endWith now (limit x))
   shorter : (k : ℕ) → answerFinite (s .condition) f g ≡ true
       → Comes s now x f g (trials s k now (now + 1) (x ⊗ s .rho))
-  no-step : finite (x ⊗ s .rho) ≡ false → Comes s now x f g (over now (refusal (stepNotFinite (x ⊗ s .rho))))
+  no-step : finite (x ⊗ s .rho) ≡ false → Comes s now x f g (endWith now (refusal (stepNotFinite (x ⊗ s .rho))))
 
 comes : (s : Setup) (k before now : ℕ) (x f g : Float) → Comes s now x f g (respond (trials s k before now x) f g)
 unfolding trials respond
@@ -93,19 +93,19 @@ comes s zero before now x f g = by (answerFinite (s .condition) f g) (holdsOf (s
   where
     by : (a h : Bool) → answerFinite (s .condition) f g ≡ a
         → Comes s now x f g
-        (cond a (cond h (over now (stop met x)) (over now (limit x))) (over before (refusal (answerNotFinite f g))))
+        (cond a (cond h (endWith now (stop met x)) (endWith now (limit x))) (endWith before (refusal (answerNotFinite f g))))
     by true true p = meets
     by true false p = at-limit
     by false h p = not-finite before p
 comes s (suc k) before now x f g =
     by (answerFinite (s .condition) f g) (holdsOf (s .condition) (s .f0) (s .s0) x f g) (finite (x ⊗ s .rho)) refl refl
   where
-    further : Bool → Search ℕ
-    further y = cond y (trials s k now (now + 1) (x ⊗ s .rho)) (over now (refusal (stepNotFinite (x ⊗ s .rho))))
+    further : Bool → Rest ℕ
+    further y = cond y (trials s k now (now + 1) (x ⊗ s .rho)) (endWith now (refusal (stepNotFinite (x ⊗ s .rho))))
 
     by : (a h y : Bool) → answerFinite (s .condition) f g ≡ a → finite (x ⊗ s .rho) ≡ y
         → Comes s now x f g
-        (cond a (cond h (over now (stop met x)) (further y)) (over before (refusal (answerNotFinite f g))))
+        (cond a (cond h (endWith now (stop met x)) (further y)) (endWith before (refusal (answerNotFinite f g))))
     by true true y p q = meets
     by true false true p q = shorter k p
     by true false false p q = no-step q
@@ -117,7 +117,7 @@ counts : (s : Setup) (k before now : ℕ) (x f g : Float) → answerFinite (s .c
 unfolding reported
 counts s k before now x f g p = by (comes s k before now x f g)
   where
-    by : {q : Search ℕ} → Comes s now x f g q → reported q ≡ now
+    by : {q : Rest ℕ} → Comes s now x f g q → reported q ≡ now
     by (not-finite b p') = absurd (false≢true (sym p' ∙ p))
     by meets = refl
     by at-limit = refl
@@ -126,19 +126,19 @@ counts s k before now x f g p = by (comes s k before now x f g)
 
 -- ---- a state that waits, an answer, and what follows the rules there
 
-module _ (s : Setup) (x : Float) (b : Backtracking) (waits : Waits s x b) (f g : Float) (r : Step)
+module _ (s : Setup) (x : Float) (b : Backtracking) (waits : Waits s x b) (f g : Float) (r : Turn)
     (follows : Follows b f g r) where
   abbrev now : ℕ
   now = waits .now
 
-  abbrev here : Search ℕ
+  abbrev here : Rest ℕ
   here = trials s (waits .left) (waits .before) now x
 
   came : Comes s now x f g (respond here f g)
   came = comes s (waits .left) (waits .before) now x f g
 
   tells : told (r .outcome) ≡ shown (respond here f g)
-  tells = follows .tells ∙ ap (λ (q : Search ℕ). shown (respond q f g)) (waits .stands)
+  tells = follows .tells ∙ ap (λ (q : Rest ℕ). shown (respond q f g)) (waits .stands)
 
   asked : (k : ℕ) → shown (trials s k now (now + 1) (x ⊗ s .rho)) ≡ asks (x ⊗ s .rho)
   asked k = asked-shown s k now (now + 1) (x ⊗ s .rho)
@@ -149,7 +149,7 @@ module _ (s : Setup) (x : Float) (b : Backtracking) (waits : Waits s x b) (f g :
   unfolding shown
   refusing-answer-shut-out p q k e = by came (sym tells ∙ ap told e)
     where
-      by : {c : Search ℕ} → Comes s now x f g c → shown c ≡ ends (refusal (numberOf k)) → ⊥
+      by : {c : Rest ℕ} → Comes s now x f g c → shown c ≡ ends (refusal (numberOf k)) → ⊥
       by (not-finite n p') e' = false≢true (sym p' ∙ p)
       by meets e' = let z : _≡_ {A = ℕ} 0 1 = cc in omega arith
       by at-limit e' = let z : _≡_ {A = ℕ} 0 1 = cc in omega arith
@@ -161,7 +161,7 @@ module _ (s : Setup) (x : Float) (b : Backtracking) (waits : Waits s x b) (f g :
   unfolding shown
   same-step-shut-out differs e = by came (sym tells ∙ ap told e)
     where
-      by : {c : Search ℕ} → Comes s now x f g c → shown c ≡ asks x → ⊥
+      by : {c : Rest ℕ} → Comes s now x f g c → shown c ≡ asks x → ⊥
       by (not-finite n p) e' = let z : _≡_ {A = ℕ} 0 1 = cc in omega arith
       by meets e' = let z : _≡_ {A = ℕ} 0 1 = cc in omega arith
       by at-limit e' = let z : _≡_ {A = ℕ} 0 1 = cc in omega arith
@@ -173,13 +173,13 @@ module _ (s : Setup) (x : Float) (b : Backtracking) (waits : Waits s x b) (f g :
   unfolding onceTold isOver
   untouched-shut-out same =
       by came
-      (subst (λ (q : Search ℕ). q ≡ onceTold (respond q f g)) (waits .stands) (sym (ap meant same) ∙ follows .leaves))
+      (subst (λ (q : Rest ℕ). q ≡ onceTold (respond q f g)) (waits .stands) (sym (ap meant same) ∙ follows .leaves))
     where
-      not-over : (q : Search ℕ) → here ≡ q → isOver q ≡ true → ⊥
+      not-over : (q : Rest ℕ) → here ≡ q → isOver q ≡ true → ⊥
       not-over q e o =
           false≢true (sym (ap isOver (question-at s (waits .left) (waits .before) now x .1)) ∙ ap isOver e ∙ o)
 
-      by : {c : Search ℕ} → Comes s now x f g c → here ≡ onceTold c → ⊥
+      by : {c : Rest ℕ} → Comes s now x f g c → here ≡ onceTold c → ⊥
       by (not-finite n p) e = not-over _ e refl
       by meets e = not-over _ e refl
       by at-limit e = not-over _ e refl
@@ -187,7 +187,7 @@ module _ (s : Setup) (x : Float) (b : Backtracking) (waits : Waits s x b) (f g :
           let q = question-at s n now (now + 1) (x ⊗ s .rho) .1 in
           let one-more : now ≡ now + 1 =
           sym (counts s (waits .left) (waits .before) now x f g p)
-          ∙ ap (λ (c : Search ℕ). reported (respond c f g)) (e ∙ ap onceTold q ∙ sym q)
+          ∙ ap (λ (c : Rest ℕ). reported (respond c f g)) (e ∙ ap onceTold q ∙ sym q)
           ∙ counts s n now (now + 1) (x ⊗ s .rho) f g p in
           omega arith
       by (no-step q) e = not-over _ e refl
@@ -208,13 +208,13 @@ asks-shorter s zero before now x f g l p h q = absurd (omega arith)
 asks-shorter s (suc k) before now x f g l p h q = rw (p, h, q) (asked-shown s k now (now + 1) (x ⊗ s .rho))
 
 -- after a finite first answer that does not meet the condition, the step asked is alpha * rho
-pub second-ask : (s : Setup) (t : Step) → Starts s (Began t) → (f g : Float) → answerFinite (s .condition) f g ≡ true
+pub second-ask : (s : Setup) (t : Turn) → Starts s (Began t) → (f g : Float) → answerFinite (s .condition) f g ≡ true
     → holdsOf (s .condition) (s .f0) (s .s0) (s .alpha) f g ≡ false → finite (s .alpha ⊗ s .rho) ≡ true
-    → (r : Step) → Follows (t .search) f g r → told (r .outcome) ≡ asks (s .alpha ⊗ s .rho)
+    → (r : Turn) → Follows (t .search) f g r → told (r .outcome) ≡ asks (s .alpha ⊗ s .rho)
 second-ask s t starts f g p h q r follows =
     let begun = passed (startRows s) (search s) (meant (t .search)) (sym (starts .stands-for)) in
     follows .tells
-    ∙ ap (λ (c : Search ℕ). shown (respond c f g)) (sym (begun .1))
+    ∙ ap (λ (c : Rest ℕ). shown (respond c f g)) (sym (begun .1))
     ∙ asks-shorter s (s .limit) 0 0 (s .alpha) f g (limit-left s (begun .0)) p h q
 
 -- with argmin's defaults alpha * rho is not alpha

@@ -9,7 +9,7 @@ use lib.Ieee.Scale.{finite}
 use Rattle.floats.specs.Arithmetic.{_⊗_, _<ᶠ_, 0ᶠ, 1ᶠ}
 use Rattle.refusals.specs.Results.{Result, Row, refuse_else_}
 use Rattle.runs.specs.Outcomes.{met, stop, limit, refusal, stepNotFinite}
-use Rattle.runs.specs.Asking.{Search, over, keeping, question}
+use Rattle.runs.specs.Asking.{Rest, endWith, keeping, question}
 use Rattle.conditions.specs.declared.Condition.{Condition}
 use Rattle.conditions.specs.Conditions.{constantsFinite, inRange, answerFinite, holdsOf}
 use Rattle.backtracking.specs.declared.Setup.{Setup}
@@ -50,24 +50,24 @@ module _ (s : Setup) where
   -- A trial at t. Before its answer is accepted `before` iterations are counted, and a refusal keeps that count; with
   -- it there are `now`, one more, but at the first trial. The stop has "the verdict "met" and the step"; "the verdict
   -- is tested first, then the limit".
-  abbrev tested : ℕ → ℕ → Float → Search ℕ → Search ℕ
+  abbrev tested : ℕ → ℕ → Float → Rest ℕ → Rest ℕ
   tested before now t further =
       question (answerFinite (s .condition)) (keeping before) before t λ f g.
-      cond (holdsOf (s .condition) (s .f0) (s .s0) t f g) (over now (stop met t)) further
+      cond (holdsOf (s .condition) (s .f0) (s .s0) t f g) (endWith now (stop met t)) further
 
   -- n trials may follow this one; "its limit has the last step tested". Refusal 5: "the next trial step comes out not
   -- finite; nothing is asked". With rho below 1 a finite step never comes to that; 01's table names it for any search.
-  unfoldable pub trials : ℕ → ℕ → ℕ → Float → Search ℕ
-  trials zero before now t = tested before now t (over now (limit t))
+  unfoldable pub trials : ℕ → ℕ → ℕ → Float → Rest ℕ
+  trials zero before now t = tested before now t (endWith now (limit t))
   trials (suc n) before now t =
       tested before now t
       (cond (finite (t ⊗ s .rho))
       (trials n now (now + 1) (t ⊗ s .rho))
-      (over now (refusal (stepNotFinite (t ⊗ s .rho)))))
+      (endWith now (refusal (stepNotFinite (t ⊗ s .rho)))))
 
-abbrev pub search : Setup → Search ℕ
+abbrev pub search : Setup → Rest ℕ
 search s = trials s (s .limit) 0 0 (s .alpha)
 
 -- a start is refused by the first row that holds, or is this search
-abbrev pub started : Setup → Result (Search ℕ)
+abbrev pub started : Setup → Result (Rest ℕ)
 started s = refuse (startRows s) else search s

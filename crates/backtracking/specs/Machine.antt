@@ -16,18 +16,18 @@ use Rattle.runs.specs.declared.Outcome.the-variants.{Ask, Stop, Limit, Refused}
 use Rattle.refusals.specs.declared.Refusal.the-variants.{SuppliedNotFinite, StepNotFinite, AlreadyOver}
 use Rattle.runs.specs.declared.Verdict.the-variants.{Met}
 use Rattle.refusals.specs.Refusals.{numberOf}
-use Rattle.runs.specs.Counters.{counted, evaluations, iterations}
+use Rattle.runs.specs.Counters.{oneMore, evaluations, iterations}
 use Rattle.conditions.specs.Conditions.{answerFinite, holdsOf}
 use Rattle.backtracking.specs.declared.Setup.{Setup}
 use Rattle.backtracking.specs.declared.Stage.{Stage}
 use Rattle.backtracking.specs.declared.Stage.the-variants.{First, Later, Over}
 use Rattle.backtracking.specs.declared.Backtracking.{Backtracking}
-use Rattle.backtracking.specs.declared.Step.{Step}
+use Rattle.backtracking.specs.declared.Turn.{Turn}
 use Rattle.backtracking.specs.declared.Started.{Started}
 use Rattle.backtracking.specs.declared.Started.the-variants.{Began, NoSearch}
 use Rattle.backtracking.specs.Backtracking.{startRows}
 
-abbrev pub madeOf : Setup → Evaluations → Iterations → Stage → Outcome → Step
+abbrev pub madeOf : Setup → Evaluations → Iterations → Stage → Outcome → Turn
 madeOf s n i stage outcome = record {
   search = record { setup = s; evaluations = n; iterations = i; stage = stage };
   outcome = outcome;
@@ -36,14 +36,14 @@ madeOf s n i stage outcome = record {
 -- ---- a start
 
 -- a search that waits for the answer at the first step, and has counted nothing
-abbrev pub fresh : Setup → Step
+abbrev pub fresh : Setup → Turn
 fresh s = madeOf s (evaluations 0) (iterations 0) First (Ask (s .alpha))
 
-abbrev pub startOf : Setup → Result Step
+abbrev pub startOf : Setup → Result Turn
 startOf s = refuse (startRows s) else fresh s
 
 -- what each case of `Started` tells, a refusal by 01's number
-abbrev pub startedTold : Started → Result Step
+abbrev pub startedTold : Started → Result Turn
 startedTold (Began t) = value t
 startedTold (NoSearch k) = refused (numberOf k)
 
@@ -54,9 +54,9 @@ StartSaid s r = startedTold r ≡ startOf s
 -- ---- an answer
 
 -- the answer at t, before which n evaluations and `before` iterations are counted
-unfoldable pub triedOf : Setup → Evaluations → Iterations → Iterations → Float → Float → Float → Step
+unfoldable pub triedOf : Setup → Evaluations → Iterations → Iterations → Float → Float → Float → Turn
 triedOf s n before now t f g =
-    let m = evaluations (counted (n .0)) in
+    let m = evaluations (oneMore (n .0)) in
     cond (answerFinite (s .condition) f g)
     (cond (holdsOf (s .condition) (s .f0) (s .s0) t f g) (madeOf s m now Over (Stop Met t))
     (cond (leb (s .limit) (now .0)) (madeOf s m now Over (Limit t))
@@ -64,15 +64,15 @@ triedOf s n before now t f g =
     (madeOf s m now Over (Refused StepNotFinite)))))
     (madeOf s n before Over (Refused SuppliedNotFinite))
 
-unfoldable pub answerBy : Backtracking → Float → Float → Stage → Step
+unfoldable pub answerBy : Backtracking → Float → Float → Stage → Turn
 answerBy s f g First = triedOf (s .setup) (s .evaluations) (s .iterations) (s .iterations) (s .setup .alpha) f g
 answerBy s f g (Later t) =
-    triedOf (s .setup) (s .evaluations) (s .iterations) (iterations (counted (s .iterations .0))) t f g
+    triedOf (s .setup) (s .evaluations) (s .iterations) (iterations (oneMore (s .iterations .0))) t f g
 answerBy s f g Over = record { search = s; outcome = Refused AlreadyOver }
 
-abbrev pub answerOf : Backtracking → Float → Float → Step
+abbrev pub answerOf : Backtracking → Float → Float → Turn
 answerOf s f g = answerBy s f g (s .stage)
 
 -- what `answer`'s contract says of its result
-abbrev pub AnswerSaid : Backtracking → Float → Float → Step → Type 0
+abbrev pub AnswerSaid : Backtracking → Float → Float → Turn → Type 0
 AnswerSaid s f g r = r ≡ answerOf s f g

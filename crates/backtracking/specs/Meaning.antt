@@ -6,29 +6,29 @@ use lib.Ieee.{Float}
 use Rattle.refusals.specs.Results.{Result, value, refused}
 use Rattle.runs.specs.Outcomes.{refusal, alreadyOver, Told, ends, told}
 use Rattle.refusals.specs.Refusals.{numberOf}
-use Rattle.runs.specs.Asking.{Search, over, respond, shown, firstOf, onceTold}
-use Rattle.runs.specs.Counters.{counted}
+use Rattle.runs.specs.Asking.{Rest, endWith, respond, shown, firstOf, onceTold}
+use Rattle.runs.specs.Counters.{oneMore}
 use Rattle.backtracking.specs.declared.Setup.{Setup}
 use Rattle.backtracking.specs.declared.Stage.{Stage}
 use Rattle.backtracking.specs.declared.Stage.the-variants.{First, Later, Over}
 use Rattle.backtracking.specs.declared.Backtracking.{Backtracking}
-use Rattle.backtracking.specs.declared.Step.{Step}
+use Rattle.backtracking.specs.declared.Turn.{Turn}
 use Rattle.backtracking.specs.declared.Started.{Started}
 use Rattle.backtracking.specs.declared.Started.the-variants.{Began, NoSearch}
 use Rattle.backtracking.specs.Backtracking.{trials, started}
 
 -- i iterations are counted
-unfoldable pub meaning : Setup → ℕ → Stage → Search ℕ
+unfoldable pub meaning : Setup → ℕ → Stage → Rest ℕ
 meaning s i First = trials s (s .limit - i) i i (s .alpha)
-meaning s i (Later t) = trials s (s .limit - counted i) i (counted i) t
-meaning s i Over = over i (refusal alreadyOver)
+meaning s i (Later t) = trials s (s .limit - oneMore i) i (oneMore i) t
+meaning s i Over = endWith i (refusal alreadyOver)
 
-abbrev pub meant : Backtracking → Search ℕ
+abbrev pub meant : Backtracking → Rest ℕ
 meant s = meaning (s .setup) (s .iterations .0) (s .stage)
 
 -- ---- `start`: the refusal's number, or the search that 01's rules are; and what is told first
 
-abbrev pub startTold : Started → Result (Search ℕ)
+abbrev pub startTold : Started → Result (Rest ℕ)
 startTold (Began r) = value (meant (r .search))
 startTold (NoSearch k) = refused (numberOf k)
 
@@ -43,6 +43,6 @@ pub record Starts (s : Setup) (r : Started) : Type 0 where
 
 -- ---- `answer`: what is told is what the rules tell at this answer, and what is left is what they leave
 
-pub record Follows (s : Backtracking) (f g : Float) (r : Step) : Type 0 where
+pub record Follows (s : Backtracking) (f g : Float) (r : Turn) : Type 0 where
   pub tells : told (r .outcome) ≡ shown (respond (meant s) f g)
   pub leaves : meant (r .search) ≡ onceTold (respond (meant s) f g)

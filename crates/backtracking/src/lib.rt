@@ -41,13 +41,13 @@ pub struct Backtracking {
     pub stage: Stage,
 }
 
-pub struct Step {
+pub struct Turn {
     pub search: Backtracking,
     pub outcome: Outcome,
 }
 
 pub enum Started {
-    Began(Step),
+    Began(Turn),
     NoSearch(Refusal),
 }
 
@@ -71,10 +71,10 @@ fn made(
     iterations: Iterations,
     stage: Stage,
     outcome: Outcome,
-) -> Step
+) -> Turn
     ensures { λ r. ⌜ r ≡ madeOf setup evaluations iterations stage outcome ⌝ }
 {
-    Step {
+    Turn {
         search: Backtracking {
             setup,
             evaluations,
@@ -137,7 +137,7 @@ fn tried(
     t: f64,
     f: f64,
     g: f64,
-) -> Step
+) -> Turn
     ensures { λ r. ⌜ r ≡ triedOf s n before now t f g ⌝ }
 {
     let condition = s.condition;
@@ -171,7 +171,7 @@ fn tried(
 }
 
 // One answer, cost f and slope g: the search with it, and what comes next. It is the step that 01's rules take.
-pub fn answer(s: Backtracking, f: f64, g: f64) -> Step
+pub fn answer(s: Backtracking, f: f64, g: f64) -> Turn
     ensures exact { λ r. ⌜ AnswerSaid s f g r ⌝ }
     ensures rules { λ r. ⌜ Follows s f g r ⌝ }
 {
@@ -190,7 +190,7 @@ pub fn answer(s: Backtracking, f: f64, g: f64) -> Step
             let now = s.iterations.next();
             tried(s.setup, s.evaluations, s.iterations, now, t, f, g)
         }
-        Stage::Over => Step {
+        Stage::Over => Turn {
             search: s,
             outcome: Outcome::Refused(Refusal::AlreadyOver),
         },

@@ -59,8 +59,8 @@ backtrackingOf body = record {
 }
 
 -- 17: "cost, slope"
-abbrev pub replyOf : List ℕ → Reply
-replyOf body = record { cost = floatAt body 0; slope = floatAt body 8 }
+abbrev pub answerOf : List ℕ → Reply
+answerOf body = record { cost = floatAt body 0; slope = floatAt body 8 }
 
 -- k floats, one behind the other
 abbrev pub floatsOf : ℕ → List ℕ → List Float

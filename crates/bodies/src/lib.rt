@@ -7,7 +7,7 @@ use hagerzhang_rules::Params;
 ghost use mathlib.Core.Path.{_≡_};
 ghost use Prim.Native.Nat.{_≤_};
 ghost use lib.ListN.{length, drop};
-ghost use Rattle.bodies.specs.Bodies.{floatAt, quadAt, paramsOf, hagerZhangOf, conditionOf, backtrackingOf, replyOf, floatsOf};
+ghost use Rattle.bodies.specs.Bodies.{floatAt, quadAt, paramsOf, hagerZhangOf, conditionOf, backtrackingOf, answerOf, floatsOf};
 
 // A Hager-Zhang start: its options, and cost and slope at step 0.
 pub struct SearchStart {
@@ -106,7 +106,7 @@ pub fn backtracking(body: &[u8]) -> Setup
 }
 
 pub fn answer(body: &[u8]) -> Reply
-    ensures { λ r. ⌜ r ≡ replyOf (now (body .entry)) ⌝ }
+    ensures { λ r. ⌜ r ≡ answerOf (now (body .entry)) ⌝ }
 {
     Reply {
         cost: float(body, 0),

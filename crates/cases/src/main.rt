@@ -1,5 +1,5 @@
-// Reads cases from standard input, a search or a vector each, and shows what becomes of them. The crates case_fields
-// and case_bodies say how a case is written.
+// Reads cases from standard input, a search or a vector each, and shows what becomes of them. The crates case_files
+// and bodies say how a case is written.
 
 mod input;
 mod on_vectors;
@@ -7,7 +7,7 @@ mod searches;
 
 use case_files::Field;
 use libc::STDOUT_FILENO;
-use searches::Seat;
+use searches::Current;
 use searches::Told;
 ghost use Rattle.case_files.specs.CaseFiles.{Short};
 
@@ -30,21 +30,21 @@ fn room(out: &mut [u8], at: usize) -> usize {
 
 // ---- a field
 
-// What the fields so far have come to: who sits at the desk, how many cases there were, the place of the next line, and
-// whether a field was malformed.
-struct Desk {
-    seat: Seat,
+// What the fields so far have come to: the search of the current case, how many cases there were, the place of the next
+// line, and whether a field was malformed.
+struct Progress {
+    current: Current,
     cases: u64,
     at: usize,
-    over: bool,
+    malformed: bool,
 }
 
-fn free(at: usize, cases: u64, over: bool) -> Desk {
-    Desk {
-        seat: Seat::Free,
+fn free(at: usize, cases: u64, malformed: bool) -> Progress {
+    Progress {
+        current: Current::Free,
         cases,
         at,
-        over,
+        malformed,
     }
 }
 
@@ -52,19 +52,19 @@ fn one_more(n: u64) -> u64 {
     if n < 18446744073709551615 { n + 1 } else { n }
 }
 
-fn told(out: &mut [u8], at: usize, cases: u64, t: Told) -> Desk {
-    let seat = t.seat;
+fn told(out: &mut [u8], at: usize, cases: u64, t: Told) -> Progress {
+    let current = t.current;
     let outcome = t.outcome;
-    Desk {
-        seat,
+    Progress {
+        current,
         cases,
         at: lines::outcome(out, at, outcome, t.evaluations, t.iterations),
-        over: false,
+        malformed: false,
     }
 }
 
 // The first field of the case with this number. The others do not begin one, and never come here.
-fn begun(out: &mut [u8], at: usize, cases: u64, field: Field, body: &[u8]) -> Desk
+fn begun(out: &mut [u8], at: usize, cases: u64, field: Field, body: &[u8]) -> Progress
     requires { ⌜ Short field ⌝ }
 {
     let p = lines::head(out, at, cases);
@@ -79,23 +79,23 @@ fn begun(out: &mut [u8], at: usize, cases: u64, field: Field, body: &[u8]) -> De
 }
 
 // The field with which s begins, at byte b of the input. All but an answer end the case before.
-fn served(out: &mut [u8], s: &[u8], desk: Desk, b: u64) -> Desk {
-    let seat = desk.seat;
+fn served(out: &mut [u8], s: &[u8], progress: Progress, b: u64) -> Progress {
+    let current = progress.current;
     let body = wire::from(s, 3);
-    let field = case_files::read(s, searches::searching(seat));
+    let field = case_files::read(s, searches::searching(current));
     if let Field::Answer = field {
         return told(
             out,
-            desk.at,
-            desk.cases,
-            searches::answered(seat, bodies::answer(body)),
+            progress.at,
+            progress.cases,
+            searches::answered(current, bodies::answer(body)),
         );
     }
-    let p = searches::closed(out, desk.at, seat);
+    let p = searches::closed(out, progress.at, current);
     if let Field::Malformed = field {
-        return free(lines::malformed(out, p, b), desk.cases, true);
+        return free(lines::malformed(out, p, b), progress.cases, true);
     }
-    begun(out, p, one_more(desk.cases), field, body)
+    begun(out, p, one_more(progress.cases), field, body)
 }
 
 // ---- the run
@@ -104,7 +104,7 @@ fn served(out: &mut [u8], s: &[u8], desk: Desk, b: u64) -> Desk {
 // goes on, a field is served only where it is surely whole. A proved loop has to end, and nothing says that an input
 // does: it counts its turns down.
 fn run(buf: &mut [u8], out: &mut [u8]) {
-    let mut desk = free(0, 0, false);
+    let mut progress = free(0, 0, false);
     let mut b: u64 = 0;
     let mut from: usize = 0;
     let mut to: usize = 0;
@@ -122,15 +122,15 @@ fn run(buf: &mut [u8], out: &mut [u8]) {
         if to <= from {
             break;
         }
-        if desk.over {
+        if progress.malformed {
             break;
         }
-        desk.at = room(out, desk.at);
-        desk = served(out, &buf[from..to], desk, input::place(b, from));
+        progress.at = room(out, progress.at);
+        progress = served(out, &buf[from..to], progress, input::place(b, from));
         from = input::beyond(buf, from, to);
     }
-    let seat = desk.seat;
-    let at = searches::closed(out, desk.at, seat);
+    let current = progress.current;
+    let at = searches::closed(out, progress.at, current);
     flush(out, at);
 }
 

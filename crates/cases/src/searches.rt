@@ -1,4 +1,4 @@
-// The search at the desk: how it starts, what an answer comes to, and the lines that close its case.
+// The search of the current case: how it starts, what an answer comes to, and the lines that close its case.
 
 use backtracking::Backtracking;
 use bodies::Reply;
@@ -8,7 +8,7 @@ use runs::Evaluations;
 use runs::Iterations;
 use runs::Outcome;
 
-pub(crate) enum Seat {
+pub(crate) enum Current {
     // before the first case, and after a dot or a point: there is none, and no answer may come
     Free,
     // its start was refused
@@ -17,18 +17,18 @@ pub(crate) enum Seat {
     Backtracks(Backtracking),
 }
 
-pub(crate) fn searching(seat: Seat) -> bool {
-    match seat {
-        Seat::Free => false,
-        Seat::NoSearch => true,
-        Seat::HagerZhang(_) => true,
-        Seat::Backtracks(_) => true,
+pub(crate) fn searching(current: Current) -> bool {
+    match current {
+        Current::Free => false,
+        Current::NoSearch => true,
+        Current::HagerZhang(_) => true,
+        Current::Backtracks(_) => true,
     }
 }
 
 // What a start or an answer comes to, with the counts that its line shows.
 pub(crate) struct Told {
-    pub(crate) seat: Seat,
+    pub(crate) current: Current,
     pub(crate) outcome: Outcome,
     pub(crate) evaluations: Evaluations,
     pub(crate) iterations: Iterations,
@@ -36,33 +36,33 @@ pub(crate) struct Told {
 
 fn refused(r: Refusal) -> Told {
     Told {
-        seat: Seat::NoSearch,
+        current: Current::NoSearch,
         outcome: Outcome::Refused(r),
         evaluations: Evaluations(0),
         iterations: Iterations(0),
     }
 }
 
-fn from_hager_zhang(step: hagerzhang::Step) -> Told {
+fn from_hager_zhang(step: hagerzhang::Turn) -> Told {
     let outcome = step.outcome;
     let s = step.search;
     let evaluations = s.evaluations;
     let kept = hagerzhang::held(s);
     Told {
-        seat: Seat::HagerZhang(s),
+        current: Current::HagerZhang(s),
         outcome,
         evaluations,
         iterations: kept.iterations(),
     }
 }
 
-fn from_backtracking(step: backtracking::Step) -> Told {
+fn from_backtracking(step: backtracking::Turn) -> Told {
     let outcome = step.outcome;
     let s = step.search;
     let evaluations = s.evaluations;
     let iterations = s.iterations;
     Told {
-        seat: Seat::Backtracks(s),
+        current: Current::Backtracks(s),
         outcome,
         evaluations,
         iterations,
@@ -86,21 +86,21 @@ pub(crate) fn backtracks(body: &[u8]) -> Told {
 
 // An answer. Where the start was refused there is nobody else to refuse it; where there is no case the field is
 // malformed, and never comes here.
-pub(crate) fn answered(seat: Seat, y: Reply) -> Told {
-    match seat {
-        Seat::Free => refused(Refusal::AlreadyOver),
-        Seat::NoSearch => refused(Refusal::AlreadyOver),
-        Seat::HagerZhang(s) => from_hager_zhang(hagerzhang::answer(s, y.cost, y.slope)),
-        Seat::Backtracks(s) => from_backtracking(backtracking::answer(s, y.cost, y.slope)),
+pub(crate) fn answered(current: Current, y: Reply) -> Told {
+    match current {
+        Current::Free => refused(Refusal::AlreadyOver),
+        Current::NoSearch => refused(Refusal::AlreadyOver),
+        Current::HagerZhang(s) => from_hager_zhang(hagerzhang::answer(s, y.cost, y.slope)),
+        Current::Backtracks(s) => from_backtracking(backtracking::answer(s, y.cost, y.slope)),
     }
 }
 
 // The closing lines.
-pub(crate) fn closed(out: &mut [u8], at: usize, seat: Seat) -> usize {
-    match seat {
-        Seat::Free => at,
-        Seat::NoSearch => lines::none(out, at, Evaluations(0), Iterations(0)),
-        Seat::HagerZhang(s) => lines::closing(out, at, s),
-        Seat::Backtracks(s) => lines::none(out, at, s.evaluations, s.iterations),
+pub(crate) fn closed(out: &mut [u8], at: usize, current: Current) -> usize {
+    match current {
+        Current::Free => at,
+        Current::NoSearch => lines::none(out, at, Evaluations(0), Iterations(0)),
+        Current::HagerZhang(s) => lines::closing(out, at, s),
+        Current::Backtracks(s) => lines::none(out, at, s.evaluations, s.iterations),
     }
 }

@@ -10,7 +10,7 @@ use native.Mathlib.Omega.{arith}
 use lib.Dec.{ltb}
 use lib.Ieee.{Float, isNan}
 use Rattle.floats.proofs.Order.{finite→real}
-use Rattle.runs.specs.Asking.{Search as Rest, ask, end, Reply, respond, shown, reported, awaits, isOver as over, onceTold, outcomes, after, reached, tallied}
+use Rattle.runs.specs.Asking.{Rest, ask, end, Reply, respond, shown, reported, awaits, isOver as over, onceTold, outcomes, after, reached, tallied}
 use Rattle.runs.proofs.Accepted.{accepted}
 use Rattle.runs.proofs.Machines as machines
 use Rattle.refusals.proofs.Refusals.{Passed}
@@ -18,28 +18,28 @@ use Rattle.hagerzhang_rules.specs.declared.Point.{Point}
 use Rattle.hagerzhang_rules.specs.declared.Options.{Options}
 use Rattle.hagerzhang_rules.specs.declared.Setup.{Setup}
 use Rattle.hagerzhang_rules.specs.Parameters.{setupOf, startRows}
-use Rattle.hagerzhang_rules.specs.Rules.{answerFinite, Report, search}
+use Rattle.hagerzhang_rules.specs.Rules.{answerFinite, Report, hagerZhang}
 use Rattle.hagerzhang_rules.specs.Iterations.{progress}
 use Rattle.hagerzhang_rules.proofs.UnderWay.{noted, kept, under-way, finished-by}
 use Rattle.hagerzhang_rules.proofs.Ranges.{limit-fits, level-finite}
-use Rattle.hagerzhang.specs.declared.Stage.{Stage}
-use Rattle.hagerzhang.specs.declared.Stage.the-variants.{Open, Over}
-use Rattle.hagerzhang.specs.declared.Search.{Search}
-use Rattle.hagerzhang.specs.Machine.{dueIn, takenOf, answerBy, answerOf, fresh}
+use Rattle.hagerzhang.specs.declared.state.Stage.{Stage}
+use Rattle.hagerzhang.specs.declared.state.Stage.the-variants.{Open, Over}
+use Rattle.hagerzhang.specs.declared.state.Search.{Search}
+use Rattle.hagerzhang.specs.Machine.{awaitedOf, takenOf, answerBy, answerOf, freshOf}
 use Rattle.hagerzhang.specs.Meaning.{report, isOver, dueTold, meaning, meant}
 use Rattle.hagerzhang.proofs.Bridge.{follows, starts-whole}
 use Rattle.hagerzhang.proofs.Answering.{setup-kept, one-more-if-finite, reports, awaited}
-use Rattle.demands.specs.Runs.{next, says, reachedBy, toldBy, toldAt, one-more, isAsking, note, noteBy, askedFrom, askedBy, askedAt, finishedBy}
+use Rattle.demands.specs.Runs.{next, says, reachedBy, toldBy, toldAt, and-then, isAsking, note, noteBy, askedFrom, askedBy, askedAt, finishedBy}
 
 -- ---- lists
 pub after-one-more : (r : Rest Report) (ys : List Reply) (y : Reply)
-    → after r (one-more ys y) ≡ respond (after r ys) (y .0) (y .1)
+    → after r (and-then ys y) ≡ respond (after r ys) (y .0) (y .1)
 unfolding after
 after-one-more r [] y = refl
 after-one-more r (z ∷ ys) y = after-one-more (respond r (z .0) (z .1)) ys y
 
 pub reached-one-more : (s : Search) (ys : List Reply) (y : Reply)
-    → reachedBy s (one-more ys y) ≡ next (reachedBy s ys) (y .0) (y .1)
+    → reachedBy s (and-then ys y) ≡ next (reachedBy s ys) (y .0) (y .1)
 unfolding reached
 reached-one-more s [] y = refl
 reached-one-more s (z ∷ ys) y = reached-one-more (next s (z .0) (z .1)) ys y
@@ -85,7 +85,7 @@ finished-rests r (y ∷ ys) = rw (rests r (y .0) (y .1), machines.report-rests r
 pub report-is : (s : Search) → report s ≡ reported (meant s)
 report-is s = sym (reports (s .setup) (s .stage))
 
-due-is : (s : Search) → dueTold (dueIn s) ≡ awaits (meant s)
+due-is : (s : Search) → dueTold (awaitedOf s) ≡ awaits (meant s)
 due-is s = sym (awaited (s .setup) (s .stage))
 
 pub over-is : (s : Setup) (stage : Stage) → over (meaning s stage) ≡ isOver stage
@@ -108,7 +108,7 @@ module _ (o : Options) (f0 s0 : Float) (ok : Passed (startRows o f0 s0)) where
   s = setupOf o f0 s0
 
   abbrev b : Search
-  b = fresh s .search
+  b = freshOf s .search
 
   abbrev Fit : Search → Type 0
   Fit c = c .setup ≡ s
@@ -133,28 +133,28 @@ module _ (o : Options) (f0 s0 : Float) (ok : Passed (startRows o f0 s0)) where
       ≡ c .evaluations .0 + accepted answerFinite (meant c) ((f, g) ∷ zs)
   adds c e f g zs h = adds-by c f g zs (c .stage) h
 
-  whole : meant b ≡ search s
+  whole : meant b ≡ hagerZhang s
   whole = starts-whole s
 
   -- what is told
-  pub outcomes-are : (ys : List Reply) → toldBy b ys ≡ outcomes (search s) ys
+  pub outcomes-are : (ys : List Reply) → toldBy b ys ≡ outcomes (hagerZhang s) ys
   outcomes-are ys =
       machines.plays meant next says Fit fit-next leaves tells b refl ys ∙ ap (λ (r : Rest Report). outcomes r ys) whole
 
   -- what does not tell an ended search from one that has told so
   pub reaches : {A : Type 0} (h : Rest Report → A) → ((r : Rest Report) → h (onceTold r) ≡ h r) → (ys : List Reply)
-      → h (meant (reachedBy b ys)) ≡ h (after (search s) ys)
+      → h (meant (reachedBy b ys)) ≡ h (after (hagerZhang s) ys)
   reaches h e ys =
       machines.reaches meant next says Fit fit-next leaves tells h e b refl ys
       ∙ ap (λ (r : Rest Report). h (after r ys)) whole
 
-  pub report-at : (ys : List Reply) → report (reachedBy b ys) ≡ reported (after (search s) ys)
+  pub report-at : (ys : List Reply) → report (reachedBy b ys) ≡ reported (after (hagerZhang s) ys)
   report-at ys = report-is (reachedBy b ys) ∙ reaches reported machines.report-rests ys
 
-  pub awaited-at : (ys : List Reply) → dueTold (dueIn (reachedBy b ys)) ≡ awaits (after (search s) ys)
+  pub awaited-at : (ys : List Reply) → dueTold (awaitedOf (reachedBy b ys)) ≡ awaits (after (hagerZhang s) ys)
   awaited-at ys = due-is (reachedBy b ys) ∙ reaches awaits awaits-rests ys
 
-  pub over-at : (ys : List Reply) → isOver (reachedBy b ys .stage) ≡ over (after (search s) ys)
+  pub over-at : (ys : List Reply) → isOver (reachedBy b ys .stage) ≡ over (after (hagerZhang s) ys)
   over-at ys =
       let c = reachedBy b ys in
       sym (over-is (c .setup) (c .stage)) ∙ reaches over machines.over-rests ys
@@ -164,14 +164,14 @@ module _ (o : Options) (f0 s0 : Float) (ok : Passed (startRows o f0 s0)) where
   fits c v [] = v
   fits c v (y ∷ ys) = fits (next c (y .0) (y .1)) (fit-next c v (y .0) (y .1)) ys
 
-  pub told-at : (ys : List Reply) (y : Reply) → toldAt b ys y ≡ shown (respond (after (search s) ys) (y .0) (y .1))
+  pub told-at : (ys : List Reply) (y : Reply) → toldAt b ys y ≡ shown (respond (after (hagerZhang s) ys) (y .0) (y .1))
   told-at ys y =
       tells (reachedBy b ys) (fits b refl ys) (y .0) (y .1)
       ∙ reaches (λ r. shown (respond r (y .0) (y .1))) (λ r. ap shown (rests r (y .0) (y .1))) ys
 
   pub report-next : (ys : List Reply) (y : Reply)
-      → report (reachedBy b (one-more ys y)) ≡ reported (respond (after (search s) ys) (y .0) (y .1))
-  report-next ys y = report-at (one-more ys y) ∙ ap reported (after-one-more (search s) ys y)
+      → report (reachedBy b (and-then ys y)) ≡ reported (respond (after (hagerZhang s) ys) (y .0) (y .1))
+  report-next ys y = report-at (and-then ys y) ∙ ap reported (after-one-more (hagerZhang s) ys y)
 
   -- what was asked in the iteration under way
   asked-is : (asked : List Point) (c : Search) → Fit c → (ys : List Reply)
@@ -193,14 +193,14 @@ module _ (o : Options) (f0 s0 : Float) (ok : Passed (startRows o f0 s0)) where
       ∙ rw (same, leaves c v (y .0) (y .1))
       (under-way-rests (kept (meant c) y asked) (respond (meant c) (y .0) (y .1)) ys)
 
-  pub asked-by : (ys : List Reply) → askedBy b ys ≡ under-way [] (search s) ys
+  pub asked-by : (ys : List Reply) → askedBy b ys ≡ under-way [] (hagerZhang s) ys
   asked-by ys = asked-is [] b refl ys ∙ ap (λ (r : Rest Report). under-way [] r ys) whole
 
   pub asked-at : (ys : List Reply) (y : Reply)
-      → askedAt b ys y ≡ noted (after (search s) ys) y (under-way [] (search s) ys)
+      → askedAt b ys y ≡ noted (after (hagerZhang s) ys) y (under-way [] (hagerZhang s) ys)
   asked-at ys y =
       ap₂ (λ (d : Option Float) (asked : List Point). note d y asked) (awaited-at ys) (asked-by ys)
-      ∙ sym (noted-awaits (after (search s) ys) y (under-way [] (search s) ys))
+      ∙ sym (noted-awaits (after (hagerZhang s) ys) y (under-way [] (hagerZhang s) ys))
 
   -- and how many of the answers finished one
   finished-is : (c : Search) → Fit c → (ys : List Reply) → finishedBy c ys ≡ finished-by (meant c) ys
@@ -218,7 +218,7 @@ module _ (o : Options) (f0 s0 : Float) (ok : Passed (startRows o f0 s0)) where
       (finished-is c' (fit-next c v (y .0) (y .1)) ys
       ∙ rw (leaves c v (y .0) (y .1)) (finished-rests (respond (meant c) (y .0) (y .1)) ys))
 
-  pub finished-at : (ys : List Reply) → finishedBy b ys ≡ finished-by (search s) ys
+  pub finished-at : (ys : List Reply) → finishedBy b ys ≡ finished-by (hagerZhang s) ys
   finished-at ys = finished-is b refl ys ∙ ap (λ (r : Rest Report). finished-by r ys) whole
 
   -- the answers that pass a test while it asks, and the counter
@@ -226,15 +226,15 @@ module _ (o : Options) (f0 s0 : Float) (ok : Passed (startRows o f0 s0)) where
   asking-is c = ap not (sym (over-is (c .setup) (c .stage)))
 
   pub tallied-is : (test : Float → Float → Bool) (ys : List Reply)
-      → tallied next isAsking test b ys ≡ accepted test (search s) ys
+      → tallied next isAsking test b ys ≡ accepted test (hagerZhang s) ys
   tallied-is test ys =
       machines.tests-counted meant next says Fit fit-next leaves tells isAsking asking-is test b refl ys
       ∙ ap (λ (r : Rest Report). accepted test r ys) whole
 
-  pub evaluations-are : (ys : List Reply) → accepted answerFinite (search s) ys ≤ 30030003
-      → reachedBy b ys .evaluations .0 ≡ accepted answerFinite (search s) ys
+  pub evaluations-are : (ys : List Reply) → accepted answerFinite (hagerZhang s) ys ≤ 30030003
+      → reachedBy b ys .evaluations .0 ≡ accepted answerFinite (hagerZhang s) ys
   evaluations-are ys few =
-      let same : accepted answerFinite (meant b) ys ≡ accepted answerFinite (search s) ys =
+      let same : accepted answerFinite (meant b) ys ≡ accepted answerFinite (hagerZhang s) ys =
       ap (λ (r : Rest Report). accepted answerFinite r ys) whole in
       let c =
       machines.counts meant next says Fit fit-next leaves tells answerFinite (λ (c : Search). c .evaluations .0) adds b

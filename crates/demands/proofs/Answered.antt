@@ -8,18 +8,19 @@ use lib.Ieee.{Float}
 use Rattle.runs.specs.Outcomes.{Ending, asks, ends, told}
 use Rattle.refusals.specs.Refusals.{given}
 use Rattle.runs.specs.Outcomes.{refusalIn}
-use Rattle.runs.specs.Counters.{counted, evaluations}
+use Rattle.runs.specs.Counters.{oneMore, evaluations}
 use Rattle.runs.proofs.Apart.{asks-not-ends}
 use Rattle.runs.specs.declared.Outcome.{Outcome}
 use Rattle.runs.specs.declared.Outcome.the-variants.{Refused}
 use Rattle.refusals.specs.declared.Refusal.the-variants.{SuppliedNotFinite}
 use Rattle.hagerzhang_rules.specs.Rules.{answerFinite}
-use Rattle.hagerzhang.specs.declared.Waiting.{Waiting}
-use Rattle.hagerzhang.specs.declared.Stage.{Stage}
-use Rattle.hagerzhang.specs.declared.Stage.the-variants.{Open, Over}
-use Rattle.hagerzhang.specs.declared.Search.{Search}
-use Rattle.hagerzhang.specs.declared.Step.{Step}
-use Rattle.hagerzhang.specs.Machine.{ending, keptOf, keptAt, reactOf, stepTo, takenOf, answerBy, AnswerSaid}
+use Rattle.hagerzhang.specs.declared.state.Waiting.{Waiting}
+use Rattle.hagerzhang.specs.declared.state.Stage.{Stage}
+use Rattle.hagerzhang.specs.declared.state.Stage.the-variants.{Open, Over}
+use Rattle.hagerzhang.specs.declared.state.Search.{Search}
+use Rattle.hagerzhang.specs.declared.state.Turn.{Turn}
+use Rattle.hagerzhang.specs.State.{endedOf, turnedOf}
+use Rattle.hagerzhang.specs.Machine.{keepsOf, heldAt, reactOf, takenOf, answerBy, AnswerSaid}
 use Rattle.hagerzhang.specs.Meaning.{isOver, OfTheStep, not-refused}
 use Rattle.hagerzhang.proofs.Answering.{Said, goes-on as asks-on, ended, react-said}
 use Rattle.demands.specs.Demand1.{Answered}
@@ -40,9 +41,9 @@ then-open (ended a b) x e = absurd (b x e)
 module _ (s : Search) (f g : Float) where
   taken : (waiting : Waiting) → s .stage ≡ Open waiting → (b : Bool) → answerFinite f g ≡ b
       → Answered s f g
-      (cond b (stepTo (s .setup) (evaluations (counted (s .evaluations .0))) (reactOf (s .setup) waiting f g))
-      (stepTo (s .setup) (s .evaluations) (ending (keptOf waiting) (Refused SuppliedNotFinite))))
-  unfolding given keptAt
+      (cond b (turnedOf (s .setup) (evaluations (oneMore (s .evaluations .0))) (reactOf (s .setup) waiting f g))
+      (turnedOf (s .setup) (s .evaluations) (endedOf (keepsOf waiting) (Refused SuppliedNotFinite))))
+  unfolding given heldAt
   taken waiting w true e =
       let m = react-said (s .setup) waiting f g in
       record {
@@ -77,5 +78,5 @@ module _ (s : Search) (f g : Float) where
     counts = rw w;
   }
 
-pub answered : (s : Search) (f g : Float) (r : Step) → AnswerSaid s f g r → Answered s f g r
+pub answered : (s : Search) (f g : Float) (r : Turn) → AnswerSaid s f g r → Answered s f g r
 answered s f g r e = rw e (by-stage s f g (s .stage) refl)

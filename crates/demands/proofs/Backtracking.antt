@@ -13,10 +13,10 @@ use lib.Ieee.Scale.{finite}
 use borrow.Author.Tests.{leb-true, not-false}
 use Rattle.refusals.specs.Results.{value}
 use Rattle.runs.specs.Outcomes.{met, stop, limit, refusal, answerNotFinite, stepNotFinite}
-use Rattle.runs.specs.Asking.{Search, end, Over as Ended, over, Reply, respond, shown, reported, isOver, onceTold, outcomes, after, tallied}
+use Rattle.runs.specs.Asking.{Rest, end, Ended, endWith, Reply, respond, shown, reported, isOver, onceTold, outcomes, after, tallied}
 use Rattle.runs.proofs.Accepted.{accepted}
-use Rattle.runs.specs.Counters.{counted}
-use Rattle.runs.proofs.Ends.{Ends, at-end, ends-if, ends-within, question-ends, ends-over, ends-accepted, non-finite-once}
+use Rattle.runs.specs.Counters.{oneMore}
+use Rattle.runs.proofs.Ends.{EndsWithin, at-end, ends-if, ends-within, question-ends, ends-over, ends-accepted, non-finite-once}
 use Rattle.floats.proofs.Branches.{either, by-test, and-second}
 use Rattle.runs.proofs.Machines as machines
 use Rattle.refusals.proofs.Refusals.{Passed, all, and, passed}
@@ -27,7 +27,7 @@ use Rattle.backtracking.specs.declared.Setup.{Setup}
 use Rattle.backtracking.specs.declared.Stage.{Stage}
 use Rattle.backtracking.specs.declared.Stage.the-variants.{First, Later, Over}
 use Rattle.backtracking.specs.declared.Backtracking.{Backtracking}
-use Rattle.backtracking.specs.declared.Step.{Step}
+use Rattle.backtracking.specs.declared.Turn.{Turn}
 use Rattle.backtracking.specs.Backtracking.{limitInRange, parametersInRange, inRanges, startRows, trials, search}
 use Rattle.backtracking.specs.Machine.{triedOf, answerBy, answerOf, fresh, startOf}
 use Rattle.backtracking.specs.Meaning.{meaning, meant}
@@ -47,20 +47,20 @@ module _ (s : Setup) (n : Evaluations) (before now : Iterations) (t f g : Float)
   tried-setup : triedOf s n before now t f g .search .setup ≡ s
   unfolding triedOf
   tried-setup =
-      either (λ (r : Step). r .search .setup) (answerFinite (s .condition) f g) _ _ s
-      (either (λ (r : Step). r .search .setup) (holdsOf (s .condition) (s .f0) (s .s0) t f g) _ _ s refl
-      (either (λ (r : Step). r .search .setup) (leb (s .limit) (now .0)) _ _ s refl
-      (either (λ (r : Step). r .search .setup) (finite (t ⊗ s .rho)) _ _ s refl refl)))
+      either (λ (r : Turn). r .search .setup) (answerFinite (s .condition) f g) _ _ s
+      (either (λ (r : Turn). r .search .setup) (holdsOf (s .condition) (s .f0) (s .s0) t f g) _ _ s refl
+      (either (λ (r : Turn). r .search .setup) (leb (s .limit) (now .0)) _ _ s refl
+      (either (λ (r : Turn). r .search .setup) (finite (t ⊗ s .rho)) _ _ s refl refl)))
       refl
 
   tried-count : triedOf s n before now t f g .search .evaluations .0
-      ≡ cond (answerFinite (s .condition) f g) (counted (n .0)) (n .0)
+      ≡ cond (answerFinite (s .condition) f g) (oneMore (n .0)) (n .0)
   unfolding triedOf
   tried-count =
-      by-test (λ (r : Step). r .search .evaluations .0) (answerFinite (s .condition) f g) _ _ (counted (n .0)) (n .0)
-      (either (λ (r : Step). r .search .evaluations .0) (holdsOf (s .condition) (s .f0) (s .s0) t f g) _ _ _ refl
-      (either (λ (r : Step). r .search .evaluations .0) (leb (s .limit) (now .0)) _ _ _ refl
-      (either (λ (r : Step). r .search .evaluations .0) (finite (t ⊗ s .rho)) _ _ _ refl refl)))
+      by-test (λ (r : Turn). r .search .evaluations .0) (answerFinite (s .condition) f g) _ _ (oneMore (n .0)) (n .0)
+      (either (λ (r : Turn). r .search .evaluations .0) (holdsOf (s .condition) (s .f0) (s .s0) t f g) _ _ _ refl
+      (either (λ (r : Turn). r .search .evaluations .0) (leb (s .limit) (now .0)) _ _ _ refl
+      (either (λ (r : Turn). r .search .evaluations .0) (finite (t ⊗ s .rho)) _ _ _ refl refl)))
       refl
 
 setup-kept : (b : Backtracking) (f g : Float) (stage : Stage) → answerBy b f g stage .search .setup ≡ b .setup
@@ -89,8 +89,8 @@ adds-by b f g ys First h =
     (machines.adds-one (answerFinite (b .setup .condition) f g) (b .evaluations .0) _ _ h
     (tried-count (b .setup) (b .evaluations) (b .iterations) _ (b .setup .alpha) f g))
 adds-by b f g ys (Later t) h =
-    rw (accepts (b .setup) (b .setup .limit - counted (b .iterations .0)) (b .iterations .0)
-    (counted (b .iterations .0)) t f g ys)
+    rw (accepts (b .setup) (b .setup .limit - oneMore (b .iterations .0)) (b .iterations .0)
+    (oneMore (b .iterations .0)) t f g ys)
     (machines.adds-one (answerFinite (b .setup .condition) f g) (b .evaluations .0) _ _ h
     (tried-count (b .setup) (b .evaluations) (b .iterations) _ t f g))
 adds-by b f g ys Over h = unfold respond in rw (machines.none-more _ _ ys, machines.none-more _ _ ((f, g) ∷ ys))
@@ -110,17 +110,17 @@ asked-open s (suc k) before now t = refl
 reports : (s : Setup) (i : ℕ) (stage : Stage) → reported (meaning s i stage) ≡ i
 unfolding meaning reported
 reports s i First = asked-report s (s .limit - i) i i (s .alpha)
-reports s i (Later t) = asked-report s (s .limit - counted i) i (counted i) t
+reports s i (Later t) = asked-report s (s .limit - oneMore i) i (oneMore i) t
 reports s i Over = refl
 
 over-is : (s : Setup) (i : ℕ) (stage : Stage) → isOver (meaning s i stage) ≡ triedOut stage
 unfolding meaning isOver
 over-is s i First = asked-open s (s .limit - i) i i (s .alpha)
-over-is s i (Later t) = asked-open s (s .limit - counted i) i (counted i) t
+over-is s i (Later t) = asked-open s (s .limit - oneMore i) i (oneMore i) t
 over-is s i Over = refl
 
 trials-end : (s : Setup) (k before now : ℕ) (t : Float)
-    → Ends (answerFinite (s .condition)) (suc k) (trials s k before now t)
+    → EndsWithin (answerFinite (s .condition)) (suc k) (trials s k before now t)
 unfolding trials
 trials-end s zero before now t =
     question-ends before t _ (λ f g. ends-if (holdsOf (s .condition) (s .f0) (s .s0) t f g) at-end at-end)
@@ -166,13 +166,13 @@ module _ (s : Setup) where
     where
       by : (a h : Bool)
           → reported (after
-          (cond a (cond h (over now (stop met t)) (over now (limit t)))
-          (over before (refusal (answerNotFinite (y .0) (y .1))))) ys)
+          (cond a (cond h (endWith now (stop met t)) (endWith now (limit t)))
+          (endWith before (refusal (answerNotFinite (y .0) (y .1))))) ys)
           ≡ counted-by before now
           (cond a 1 0
           + accepted C
-          (cond a (cond h (over now (stop met t)) (over now (limit t)))
-          (over before (refusal (answerNotFinite (y .0) (y .1))))) ys)
+          (cond a (cond h (endWith now (stop met t)) (endWith now (limit t)))
+          (endWith before (refusal (answerNotFinite (y .0) (y .1))))) ys)
       by true true = ended-counts before now _ ys 1 (omega arith)
       by true false = ended-counts before now _ ys 1 (omega arith)
       by false h = ended-counts before now _ ys 0 refl
@@ -180,18 +180,18 @@ module _ (s : Setup) where
       by (C (y .0) (y .1)) (holdsOf (s .condition) (s .f0) (s .s0) t (y .0) (y .1)) (finite (t ⊗ s .rho))
       (trials-counted k now (now + 1) (t ⊗ s .rho) ys)
     where
-      on : Bool → Search ℕ
-      on x = cond x (trials s k now (now + 1) (t ⊗ s .rho)) (over now (refusal (stepNotFinite (t ⊗ s .rho))))
+      on : Bool → Rest ℕ
+      on x = cond x (trials s k now (now + 1) (t ⊗ s .rho)) (endWith now (refusal (stepNotFinite (t ⊗ s .rho))))
 
       by : (a h x : Bool)
           → reported (after (trials s k now (now + 1) (t ⊗ s .rho)) ys)
           ≡ counted-by now (now + 1) (accepted C (trials s k now (now + 1) (t ⊗ s .rho)) ys)
           → reported (after
-          (cond a (cond h (over now (stop met t)) (on x)) (over before (refusal (answerNotFinite (y .0) (y .1))))) ys)
+          (cond a (cond h (endWith now (stop met t)) (on x)) (endWith before (refusal (answerNotFinite (y .0) (y .1))))) ys)
           ≡ counted-by before now
           (cond a 1 0
           + accepted C
-          (cond a (cond h (over now (stop met t)) (on x)) (over before (refusal (answerNotFinite (y .0) (y .1))))) ys)
+          (cond a (cond h (endWith now (stop met t)) (on x)) (endWith before (refusal (answerNotFinite (y .0) (y .1))))) ys)
       by true true x ih = ended-counts before now _ ys 1 (omega arith)
       by true false true ih = ih ∙ counts-on before now (accepted C (trials s k now (now + 1) (t ⊗ s .rho)) ys)
       by true false false ih = ended-counts before now _ ys 1 (omega arith)
@@ -234,7 +234,7 @@ module _ (s : Setup) (ok : Passed (startRows s)) where
       ≡ c .evaluations .0
       + accepted (answerFinite (u .condition)) (meant c) ((f, g) ∷ zs)) e (adds-by c f g zs (c .stage) h)
 
-  within : Ends test (1 + s .limit) (search s)
+  within : EndsWithin test (1 + s .limit) (search s)
   within = ends-within (trials-end s (s .limit) 0 0 (s .alpha)) (1 + s .limit) (omega arith)
 
   asking-is : (c : Backtracking) → isAsking c ≡ not (isOver (meant c))
@@ -244,13 +244,13 @@ module _ (s : Setup) (ok : Passed (startRows s)) where
       → tallied next isAsking passes b ys ≡ accepted passes (search s) ys
   tallied-is passes ys =
       machines.tests-counted meant next says Fit fit-next leaves tells isAsking asking-is passes b refl ys
-      ∙ ap (λ (r : Search ℕ). accepted passes r ys) (starts-whole s)
+      ∙ ap (λ (r : Rest ℕ). accepted passes r ys) (starts-whole s)
 
-  reaches : {A : Type 0} (h : Search ℕ → A) → ((r : Search ℕ) → h (onceTold r) ≡ h r) → (ys : List Reply)
+  reaches : {A : Type 0} (h : Rest ℕ → A) → ((r : Rest ℕ) → h (onceTold r) ≡ h r) → (ys : List Reply)
       → h (meant (reachedBy b ys)) ≡ h (after (search s) ys)
   reaches h e ys =
       machines.reaches meant next says Fit fit-next leaves tells h e b refl ys
-      ∙ ap (λ (r : Search ℕ). h (after r ys)) (starts-whole s)
+      ∙ ap (λ (r : Rest ℕ). h (after r ys)) (starts-whole s)
 
   iterations-are : (ys : List Reply) → reachedBy b ys .iterations .0 ≡ reported (after (search s) ys)
   iterations-are ys =
@@ -263,7 +263,7 @@ module _ (s : Setup) (ok : Passed (startRows s)) where
   evaluations-are : (ys : List Reply) → reachedBy b ys .evaluations .0 ≡ tallied next isAsking test b ys
   evaluations-are ys =
       let same : accepted test (meant b) ys ≡ accepted test (search s) ys =
-      ap (λ (r : Search ℕ). accepted test r ys) (starts-whole s) in
+      ap (λ (r : Rest ℕ). accepted test r ys) (starts-whole s) in
       let tally = tallied-is test ys in
       let few = few-finite ys in
       let l : s .limit ≤ 10000 = limit-fits s ok in
@@ -276,7 +276,7 @@ module _ (s : Setup) (ok : Passed (startRows s)) where
     first-ask = sym (asked-shown s (s .limit) 0 0 (s .alpha));
     outcomes-are-rules = λ ys.
         machines.plays meant next says Fit fit-next leaves tells b refl ys
-        ∙ ap (λ (r : Search ℕ). outcomes r ys) (starts-whole s);
+        ∙ ap (λ (r : Rest ℕ). outcomes r ys) (starts-whole s);
     iterations-are-rules = iterations-are;
     iterations-counted = λ ys.
         rw (tallied-is test ys)
@@ -290,7 +290,7 @@ module _ (s : Setup) (ok : Passed (startRows s)) where
     non-finite-once = λ ys. rw (tallied-is (λ f g. not (test f g)) ys) (non-finite-once within ys);
   }
 
-pub searches : (s : Setup) (t : Step) → startOf s ≡ value t → Searches s t
+pub searches : (s : Setup) (t : Turn) → startOf s ≡ value t → Searches s t
 searches s t began =
     let given = passed (startRows s) (fresh s) t began in
     subst (Searches s) (given .1) (of-fresh s (given .0))

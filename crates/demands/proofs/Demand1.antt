@@ -12,7 +12,7 @@ use Rattle.conditions.specs.Conditions.{conditionRows}
 use Rattle.curves.specs.Curves.{curveRows}
 use Rattle.hagerzhang_rules.specs.Parameters.{startRows}
 use Rattle.jobs.specs.declared.Job.{Job}
-use Rattle.jobs.specs.Format.{Field, Holds, meansOf}
+use Rattle.jobs.specs.Format.{Field, WellFormed, meansOf}
 use Rattle.jobs.proofs.BothWays.{job-read, no-job-refused}
 use Rattle.jobs.specs.declared.Opened.{Opened}
 use Rattle.jobs.specs.Opening.{jobRows, beginsBy, openedTold, BeginSaid}
@@ -20,7 +20,7 @@ use Rattle.demands.specs.Demand1.{Demand1}
 use Rattle.demands.proofs.Answered.{answered}
 use Rattle.demands.proofs.Refused.{refused-rightly}
 
-job-table : (bytes : List ℕ) (r : Opened) → BeginSaid bytes r → (fs : List Field) (j : Job) → Holds 0 fs bytes
+job-table : (bytes : List ℕ) (r : Opened) → BeginSaid bytes r → (fs : List Field) (j : Job) → WellFormed 0 fs bytes
     → meansOf fs ≡ value j
     → Table (refusedBy (openedTold r)) (jobRows j)
 unfolding inOrder

@@ -12,7 +12,7 @@ use Rattle.refusals.specs.Results.{value}
 use Rattle.refusals.specs.declared.Refusal.{Refusal}
 use Rattle.runs.specs.Outcomes.{asks, told}
 use Rattle.refusals.specs.Refusals.{numberOf}
-use Rattle.runs.specs.Asking.{Search as Rest, respond, shown, onceTold}
+use Rattle.runs.specs.Asking.{Rest, respond, shown, onceTold}
 use Rattle.refusals.specs.Refusals.{refusedBy}
 use Rattle.runs.specs.Outcomes.{refusalIn}
 use Rattle.runs.proofs.Apart.{same-step}
@@ -20,14 +20,14 @@ use Rattle.refusals.proofs.Refusals.{Passed, passed, value-given}
 use Rattle.hagerzhang_rules.specs.declared.Options.{Options}
 use Rattle.hagerzhang_rules.specs.declared.Setup.{Setup}
 use Rattle.hagerzhang_rules.specs.Parameters.{setupOf, startRows}
-use Rattle.hagerzhang_rules.specs.Rules.{answerFinite, Report, askHigh, search}
+use Rattle.hagerzhang_rules.specs.Rules.{answerFinite, Report, askHigh, hagerZhang}
 use Rattle.hagerzhang_rules.specs.Iterations.{reportFinite}
 use Rattle.hagerzhang_rules.proofs.Ranges.{low-below-high}
 use Rattle.hagerzhang_rules.proofs.Demand3 as rules
-use Rattle.hagerzhang.specs.declared.Search.{Search}
-use Rattle.hagerzhang.specs.declared.Step.{Step}
-use Rattle.hagerzhang.specs.declared.Started.the-variants.{NoSearch}
-use Rattle.hagerzhang.specs.Machine.{fresh, startOf}
+use Rattle.hagerzhang.specs.declared.state.Search.{Search}
+use Rattle.hagerzhang.specs.declared.state.Turn.{Turn}
+use Rattle.hagerzhang.specs.declared.state.Started.the-variants.{NoSearch}
+use Rattle.hagerzhang.specs.Machine.{freshOf, startOf}
 use Rattle.hagerzhang.specs.Meaning.{meant, Starts, Follows}
 use Rattle.hagerzhang.proofs.Bridge.{follows, starts-whole}
 use Rattle.curves.specs.declared.Curve.{Curve}
@@ -37,18 +37,18 @@ use Rattle.demands.specs.Demand2.{ByRules, GivenByStart, Demand2}
 use Rattle.demands.proofs.Along.{outcomes-are, report-at, awaited-at}
 
 -- ---- the first answer, by the rules: max is asked
-first-step : (s : Setup) → shown (search s) ≡ asks (s .options .params .min)
-unfolding search shown
+first-step : (s : Setup) → shown (hagerZhang s) ≡ asks (s .options .params .min)
+unfolding hagerZhang shown
 first-step s = refl
 
 second-step : (s : Setup) (f g : Float) → answerFinite f g ≡ true
-    → shown (respond (search s) f g) ≡ asks (s .options .params .max)
-unfolding search shown respond askHigh
+    → shown (respond (hagerZhang s) f g) ≡ asks (s .options .params .max)
+unfolding hagerZhang shown respond askHigh
 second-step s f g e = rw e
 
 left-asks : (s : Setup) (f g : Float) → answerFinite f g ≡ true
-    → shown (onceTold (respond (search s) f g)) ≡ asks (s .options .params .max)
-unfolding search shown respond onceTold askHigh
+    → shown (onceTold (respond (hagerZhang s) f g)) ≡ asks (s .options .params .max)
+unfolding hagerZhang shown respond onceTold askHigh
 left-asks s f g e = rw e
 
 module _ (o : Options) (f0 s0 : Float) (ok : Passed (startRows o f0 s0)) where
@@ -56,14 +56,14 @@ module _ (o : Options) (f0 s0 : Float) (ok : Passed (startRows o f0 s0)) where
   s = setupOf o f0 s0
 
   abbrev b : Search
-  b = fresh s .search
+  b = freshOf s .search
 
   bounds-differ : o .params .min ≡ o .params .max → ⊥
   bounds-differ same =
       false≢true (sym (lt-irrefl (o .params .max))
       ∙ subst (λ (x : Float). x <ᶠ o .params .max ≡ true) same (low-below-high o f0 s0 ok))
 
-  module _ (f g : Float) (fine : answerFinite f g ≡ true) (r : Step) (by : Follows b f g r) where
+  module _ (f g : Float) (fine : answerFinite f g ≡ true) (r : Turn) (by : Follows b f g r) where
     -- what follows the rules asks max
     asks-max : told (r .outcome) ≡ asks (o .params .max)
     asks-max = by .tells ∙ ap (λ (q : Rest Report). shown (respond q f g)) (starts-whole s) ∙ second-step s f g fine
@@ -89,11 +89,11 @@ module _ (o : Options) (f0 s0 : Float) (ok : Passed (startRows o f0 s0)) where
   no-refused-start : (k : Refusal) → Starts o f0 s0 (NoSearch k) → ⊥
   no-refused-start k starts =
       Option·none-ne-some (numberOf k)
-      (sym (ap refusedBy (starts .stands-for ∙ value-given (startRows o f0 s0) (search s) ok)))
+      (sym (ap refusedBy (starts .stands-for ∙ value-given (startRows o f0 s0) (hagerZhang s) ok)))
 
-  of-fresh : ByRules o f0 s0 (fresh s)
+  of-fresh : ByRules o f0 s0 (freshOf s)
   of-fresh = record {
-    first-ask = unfold search shown in refl;
+    first-ask = unfold hagerZhang shown in refl;
     outcomes-are-rules = outcomes-are o f0 s0 ok;
     report-is-rules = report-at o f0 s0 ok;
     awaited-is-rules = awaited-at o f0 s0 ok;
@@ -105,13 +105,13 @@ module _ (o : Options) (f0 s0 : Float) (ok : Passed (startRows o f0 s0)) where
     untouched-shut-out = other-state;
   }
 
-by-rules : (o : Options) (f0 s0 : Float) (t : Step) → startOf o f0 s0 ≡ value t → ByRules o f0 s0 t
+by-rules : (o : Options) (f0 s0 : Float) (t : Turn) → startOf o f0 s0 ≡ value t → ByRules o f0 s0 t
 by-rules o f0 s0 t began =
-    let given = passed (startRows o f0 s0) (fresh (setupOf o f0 s0)) t began in
+    let given = passed (startRows o f0 s0) (freshOf (setupOf o f0 s0)) t began in
     subst (ByRules o f0 s0) (given .1) (of-fresh o f0 s0 (given .0))
 
 -- a job's search is the start's, with the job's options and its curve's cost and slope at 0
-given-by : (bytes : List ℕ) (c : Curve) (t : Step) → Begins bytes c t → GivenByStart t
+given-by : (bytes : List ℕ) (c : Curve) (t : Turn) → Begins bytes c t → GivenByStart t
 given-by bytes c t b = record { o = b .job .options; f0 = f0Of (b .job); s0 = s0Of (b .job); given = b .started }
 
 pub demand2 : Demand2

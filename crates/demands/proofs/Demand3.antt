@@ -8,25 +8,25 @@ use native.Mathlib.Omega.{arith}
 use lib.Ieee.{Float}
 use Rattle.refusals.specs.Results.{value}
 use Rattle.runs.specs.Outcomes.{Ending, stop, limit, refusal, Why, ends, numbered}
-use Rattle.runs.specs.Asking.{Search as Rest, ask, end, Reply, respond, shown, reported, after}
+use Rattle.runs.specs.Asking.{Rest, ask, end, Reply, respond, shown, reported, after}
 use Rattle.runs.proofs.Apart.{same-end, asks-not-ends}
-use Rattle.runs.proofs.Ends.{Ends as EndsWithin, ends-over, ends-accepted, non-finite-once}
+use Rattle.runs.proofs.Ends.{EndsWithin, ends-over, ends-accepted, non-finite-once}
 use Rattle.refusals.proofs.Refusals.{Passed, passed}
 use Rattle.hagerzhang_rules.specs.declared.Point.{Point}
 use Rattle.hagerzhang_rules.specs.declared.Options.{Options}
 use Rattle.hagerzhang_rules.specs.declared.Setup.{Setup}
 use Rattle.hagerzhang_rules.specs.Parameters.{setupOf, startRows}
-use Rattle.hagerzhang_rules.specs.Rules.{answerFinite, Report, noneYet, last, iterationsIn, search}
-use Rattle.hagerzhang_rules.specs.Iterations.{Ends, verdict, at-limit, not-finite, trial-not-finite, U3-not-finite, spent, not-between, already}
+use Rattle.hagerzhang_rules.specs.Rules.{answerFinite, Report, noneYet, last, iterationsIn, hagerZhang}
+use Rattle.hagerzhang_rules.specs.Iterations.{EndedBecause, by-verdict, by-limit, not-finite, trial-not-finite, U3-not-finite, budget-spent, not-between, already}
 use Rattle.hagerzhang_rules.proofs.UnderWay.{under-way}
 use Rattle.hagerzhang_rules.proofs.Ranges.{level-finite, min-finite, max-finite, start-finite, most-answers}
 use Rattle.hagerzhang_rules.proofs.Bounds.{search-within}
 use Rattle.hagerzhang_rules.proofs.Demand3 as rules
-use Rattle.hagerzhang.specs.declared.Search.{Search}
-use Rattle.hagerzhang.specs.declared.Step.{Step}
-use Rattle.hagerzhang.specs.Machine.{fresh, startOf}
+use Rattle.hagerzhang.specs.declared.state.Search.{Search}
+use Rattle.hagerzhang.specs.declared.state.Turn.{Turn}
+use Rattle.hagerzhang.specs.Machine.{freshOf, startOf}
 use Rattle.hagerzhang.specs.Meaning.{report}
-use Rattle.demands.specs.Runs.{reachedBy, one-more, finiteBy}
+use Rattle.demands.specs.Runs.{reachedBy, and-then, finiteBy}
 use Rattle.demands.specs.Demand3.{AtLimit, Bounded, Demand3}
 use Rattle.demands.proofs.Along.{after-one-more, report-at, report-next, over-at, told-at, asked-by, asked-at, finished-at, tallied-is, evaluations-are}
 
@@ -41,16 +41,16 @@ is-limit (stop w y) = false
 is-limit (limit y) = true
 is-limit (refusal n) = false
 
-limit-reached : (s : Setup) (k : Report) (asked : List Point) (e : Ending Why) (x : Float) → Ends s k asked e
+limit-reached : (s : Setup) (k : Report) (asked : List Point) (e : Ending Why) (x : Float) → EndedBecause s k asked e
     → numbered e ≡ limit x → AtLimit (s .options .limit) x k
 unfolding step-at is-limit
-limit-reached s k asked e x (at-limit {p = p} fails n) is =
+limit-reached s k asked e x (by-limit {p = p} fails n) is =
     record { p = p; holds = refl; iterations = n; best = ap (step-at x) is }
-limit-reached s k asked e x (verdict j) is = absurd (false≢true (ap is-limit is))
+limit-reached s k asked e x (by-verdict j) is = absurd (false≢true (ap is-limit is))
 limit-reached s k asked e x (not-finite u) is = absurd (false≢true (ap is-limit is))
 limit-reached s k asked e x (trial-not-finite t a u) is = absurd (false≢true (ap is-limit is))
 limit-reached s k asked e x (U3-not-finite t u) is = absurd (false≢true (ap is-limit is))
-limit-reached s k asked e x (spent t n) is = absurd (false≢true (ap is-limit is))
+limit-reached s k asked e x (budget-spent t n) is = absurd (false≢true (ap is-limit is))
 limit-reached s k asked e x (not-between t u n) is = absurd (false≢true (ap is-limit is))
 limit-reached s k asked e x already is = absurd (false≢true (ap is-limit is))
 
@@ -59,13 +59,13 @@ module _ (o : Options) (f0 s0 : Float) (ok : Passed (startRows o f0 s0)) where
   abbrev s : Setup
   s = setupOf o f0 s0
 
-  abbrev t : Step
-  t = fresh s
+  abbrev t : Turn
+  t = freshOf s
 
   abbrev b : Search
   b = t .search
 
-  within : EndsWithin answerFinite (3 + o .limit * (3 + 3 * o .budget)) (search s)
+  within : EndsWithin answerFinite (3 + o .limit * (3 + 3 * o .budget)) (hagerZhang s)
   within =
       search-within s (level-finite o f0 s0 ok) (min-finite o f0 s0 ok) (max-finite o f0 s0 ok)
       (start-finite o f0 s0 ok)
@@ -81,13 +81,13 @@ module _ (o : Options) (f0 s0 : Float) (ok : Passed (startRows o f0 s0)) where
   few-iterations ys noneYet e = omega arith
   few-iterations ys (last p) e = rules.iterations-bounded o f0 s0 ok ys p (sym (report-at o f0 s0 ok ys) ∙ e)
 
-  ended : (ys : List Reply) (y : Reply) (x : Float) (r : Rest Report) → respond (after (search s) ys) (y .0) (y .1) ≡ r
+  ended : (ys : List Reply) (y : Reply) (x : Float) (r : Rest Report) → respond (after (hagerZhang s) ys) (y .0) (y .1) ≡ r
       → shown r ≡ ends (limit x) → AtLimit (o .limit) x (reported r)
   unfolding shown reported
   ended ys y x (ask k z then) is e = absurd (asks-not-ends z (limit x) (sym e))
   ended ys y x (end e) is shows =
-      limit-reached s (e .keeps) (under-way [] (search s) (one-more ys y)) (e .by) x
-      (rules.ends o f0 s0 ok (one-more ys y) (e .keeps) (e .by) (after-one-more (search s) ys y ∙ is))
+      limit-reached s (e .keeps) (under-way [] (hagerZhang s) (and-then ys y)) (e .by) x
+      (rules.ends o f0 s0 ok (and-then ys y) (e .keeps) (e .by) (after-one-more (hagerZhang s) ys y ∙ is))
       (same-end (numbered (e .by)) (limit x) shows)
 
   of-fresh : Bounded o f0 s0 t
@@ -118,14 +118,14 @@ module _ (o : Options) (f0 s0 : Float) (ok : Passed (startRows o f0 s0)) where
     iterations-bounded = λ ys. few-iterations ys (report (reachedBy b ys)) refl;
     at-limit = λ ys y x e.
         rw (report-next o f0 s0 ok ys y)
-        (ended ys y x (respond (after (search s) ys) (y .0) (y .1)) refl (sym (told-at o f0 s0 ok ys y) ∙ e));
+        (ended ys y x (respond (after (hagerZhang s) ys) (y .0) (y .1)) refl (sym (told-at o f0 s0 ok ys y) ∙ e));
     non-finite-once = λ ys. rw (tallied-is o f0 s0 ok _ ys) (non-finite-once within ys);
   }
 
 -- ---- every search that `start` gave
-bounded : (o : Options) (f0 s0 : Float) (t : Step) → startOf o f0 s0 ≡ value t → Bounded o f0 s0 t
+bounded : (o : Options) (f0 s0 : Float) (t : Turn) → startOf o f0 s0 ≡ value t → Bounded o f0 s0 t
 bounded o f0 s0 t began =
-    let given = passed (startRows o f0 s0) (fresh (setupOf o f0 s0)) t began in
+    let given = passed (startRows o f0 s0) (freshOf (setupOf o f0 s0)) t began in
     subst (Bounded o f0 s0) (given .1) (of-fresh o f0 s0 (given .0))
 
 pub demand3 : Demand3

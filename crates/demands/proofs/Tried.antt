@@ -9,7 +9,7 @@ use lib.Ieee.{Float}
 use lib.Ieee.Scale.{finite}
 use Rattle.floats.specs.Arithmetic.{_⊗_}
 use Rattle.refusals.specs.Refusals.{given, inOrder}
-use Rattle.runs.specs.Counters.{counted, evaluations, iterations}
+use Rattle.runs.specs.Counters.{oneMore, evaluations, iterations}
 use Rattle.runs.proofs.Apart.{asks-not-ends}
 use Rattle.floats.proofs.Branches.{either}
 use Rattle.runs.specs.declared.Outcome.the-variants.{Ask, Stop, Limit, Refused}
@@ -21,7 +21,7 @@ use Rattle.backtracking.specs.declared.Setup.{Setup as Trials}
 use Rattle.backtracking.specs.declared.Stage.{Stage as Trying}
 use Rattle.backtracking.specs.declared.Stage.the-variants.{First, Later, Over as TriedOut}
 use Rattle.backtracking.specs.declared.Backtracking.{Backtracking}
-use Rattle.backtracking.specs.declared.Step.{Step}
+use Rattle.backtracking.specs.declared.Turn.{Turn}
 use Rattle.backtracking.specs.Machine.{madeOf, triedOf, answerBy, AnswerSaid}
 use Rattle.demands.specs.Backtracking.{triedOut, nextTrial, trialDue, notFinite, trialsRows, trialsKept, Tried}
 
@@ -53,7 +53,7 @@ module _ (b : Backtracking) (f g : Float) (stage : Trying) (w : b .stage ≡ sta
   tries : (a h l x : Bool) → answerFinite (s .condition) f g ≡ a → holdsOf (s .condition) (s .f0) (s .s0) t f g ≡ h
       → leb (s .limit) (now .0) ≡ l → finite (t ⊗ s .rho) ≡ x
       → Tried b f g
-      (let m = evaluations (counted (b .evaluations .0)) in
+      (let m = evaluations (oneMore (b .evaluations .0)) in
       cond a
       (cond h (madeOf s m now TriedOut (Stop Met t))
       (cond l (madeOf s m now TriedOut (Limit t))
@@ -107,7 +107,7 @@ by-stage : (b : Backtracking) (f g : Float) (stage : Trying) → b .stage ≡ st
 unfolding answerBy given inOrder
 by-stage b f g First w = tried b f g First w refl (b .iterations) (b .setup .alpha) refl
     (sym (either (λ (n : ℕ). n) (answerFinite (b .setup .condition) f g) _ _ (b .iterations .0) refl refl))
-by-stage b f g (Later t) w = tried b f g (Later t) w refl (iterations (counted (b .iterations .0))) t refl refl
+by-stage b f g (Later t) w = tried b f g (Later t) w refl (iterations (oneMore (b .iterations .0))) t refl refl
 by-stage b f g TriedOut w = record {
   refused-by = record { exactly = rw w; ordered = refl };
   unchanged = λ q. refl;
@@ -116,5 +116,5 @@ by-stage b f g TriedOut w = record {
   counts = rw w;
 }
 
-pub answered : (b : Backtracking) (f g : Float) (r : Step) → AnswerSaid b f g r → Tried b f g r
+pub answered : (b : Backtracking) (f g : Float) (r : Turn) → AnswerSaid b f g r → Tried b f g r
 answered b f g r e = rw e (by-stage b f g (b .stage) refl)

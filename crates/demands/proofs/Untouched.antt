@@ -4,7 +4,7 @@
 use mathlib.Core.List.{List, [], _∷_}
 use lib.Ieee.{Float}
 use Rattle.runs.specs.Asking.{Reply, reached}
-use Rattle.hagerzhang.specs.declared.Search.{Search}
+use Rattle.hagerzhang.specs.declared.state.Search.{Search}
 use Rattle.hagerzhang.specs.Meaning.{report}
 use Rattle.hagerzhang_rules.proofs.Demand3.{Holds}
 

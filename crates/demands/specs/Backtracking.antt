@@ -13,7 +13,7 @@ use Rattle.floats.specs.Arithmetic.{_⊗_}
 use Rattle.refusals.specs.Results.{value, Row}
 use Rattle.runs.specs.Outcomes.{Ending, Told, ends, told}
 use Rattle.runs.specs.Asking.{Reply, shown, reported, outcomes, after, reached, played, tallied}
-use Rattle.runs.specs.Counters.{counted}
+use Rattle.runs.specs.Counters.{oneMore}
 use Rattle.refusals.specs.Refusals.{Table, refusedBy}
 use Rattle.runs.specs.Outcomes.{refusalIn}
 use Rattle.conditions.specs.Conditions.{answerFinite, holdsOf}
@@ -21,7 +21,7 @@ use Rattle.backtracking.specs.declared.Setup.{Setup as Trials}
 use Rattle.backtracking.specs.declared.Stage.{Stage as Trying}
 use Rattle.backtracking.specs.declared.Stage.the-variants.{First, Later, Over as TriedOut}
 use Rattle.backtracking.specs.declared.Backtracking.{Backtracking}
-use Rattle.backtracking.specs.declared.Step.{Step}
+use Rattle.backtracking.specs.declared.Turn.{Turn}
 use Rattle.backtracking.specs.declared.Started.{Started}
 use Rattle.backtracking.specs.Backtracking.{startRows, search}
 use Rattle.backtracking.specs.Machine.{startOf, startedTold, StartSaid, answerOf, AnswerSaid}
@@ -41,7 +41,7 @@ nextTrial s now t f g =
 
 abbrev pub trialDue : Backtracking → Trying → Float → Float → Option Float
 trialDue b First f g = nextTrial (b .setup) (b .iterations .0) (b .setup .alpha) f g
-trialDue b (Later t) f g = nextTrial (b .setup) (counted (b .iterations .0)) t f g
+trialDue b (Later t) f g = nextTrial (b .setup) (oneMore (b .iterations .0)) t f g
 trialDue b TriedOut f g = none
 
 abbrev pub notFinite : Option Float → Bool
@@ -62,11 +62,11 @@ trialsRows b f g =
 abbrev pub trialsKept : Backtracking → Trying → Float → Float → ℕ
 trialsKept b First f g = b .iterations .0
 trialsKept b (Later t) f g =
-    cond (answerFinite (b .setup .condition) f g) (counted (b .iterations .0)) (b .iterations .0)
+    cond (answerFinite (b .setup .condition) f g) (oneMore (b .iterations .0)) (b .iterations .0)
 trialsKept b TriedOut f g = b .iterations .0
 
 -- the number by which an answer is refused, if any, and what that leaves
-pub record Tried (b : Backtracking) (f g : Float) (r : Step) : Type 0 where
+pub record Tried (b : Backtracking) (f g : Float) (r : Turn) : Type 0 where
   -- 8, 2, 5, exactly when
   pub refused-by : Table (refusalIn (told (r .outcome))) (trialsRows b f g)
   -- 8: "state unchanged"
@@ -77,7 +77,7 @@ pub record Tried (b : Backtracking) (f g : Float) (r : Step) : Type 0 where
   -- "Evaluations count every finite answer accepted"
   pub counts : r .search .evaluations .0
       ≡ cond (triedOut (b .stage)) (b .evaluations .0)
-      (cond (answerFinite (b .setup .condition) f g) (counted (b .evaluations .0)) (b .evaluations .0))
+      (cond (answerFinite (b .setup .condition) f g) (oneMore (b .evaluations .0)) (b .evaluations .0))
 
 -- ---- along any answers
 
@@ -98,7 +98,7 @@ isAsking b = not (triedOut (b .stage))
 
 -- ---- a search that `start` gave
 
-module _ (s : Trials) (t : Step) where
+module _ (s : Trials) (t : Turn) where
   abbrev b : Backtracking
   b = t .search
 
@@ -123,5 +123,5 @@ module _ (s : Trials) (t : Step) where
 
 pub record BacktrackingDemands : Type 0 where
   pub start : (s : Trials) (r : Started) → StartSaid s r → Table (refusedBy (startedTold r)) (startRows s)
-  pub answer : (b : Backtracking) (f g : Float) (r : Step) → AnswerSaid b f g r → Tried b f g r
-  pub search-given : (s : Trials) (t : Step) → startOf s ≡ value t → Searches s t
+  pub answer : (b : Backtracking) (f g : Float) (r : Turn) → AnswerSaid b f g r → Tried b f g r
+  pub search-given : (s : Trials) (t : Turn) → startOf s ≡ value t → Searches s t

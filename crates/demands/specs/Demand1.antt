@@ -14,7 +14,7 @@ use Rattle.floats.specs.Arithmetic.{_<ᶠ_}
 use Rattle.refusals.specs.Results.{value, refused, Row}
 use Rattle.runs.specs.Outcomes.{Ending, refusal, Why, numbered, Told, asks, ends, told}
 use Rattle.runs.specs.Asking.{Reply}
-use Rattle.runs.specs.Counters.{counted}
+use Rattle.runs.specs.Counters.{oneMore}
 use Rattle.refusals.specs.Refusals.{given, Table, refusedBy}
 use Rattle.runs.specs.Outcomes.{refusalIn}
 use Rattle.vectors.specs.declared.DotResult.{DotResult}
@@ -34,20 +34,20 @@ use Rattle.hagerzhang_rules.specs.declared.Came.the-variants.{On}
 use Rattle.hagerzhang_rules.specs.declared.Options.{Options}
 use Rattle.hagerzhang_rules.specs.declared.Setup.{Setup}
 use Rattle.hagerzhang_rules.specs.Parameters.{setupOf, startRows}
-use Rattle.hagerzhang_rules.specs.Rules.{answerFinite, middleOf, Last, Report, last}
-use Rattle.hagerzhang_rules.specs.Iterations.{standing, had, Asks, Ends}
+use Rattle.hagerzhang_rules.specs.Rules.{answerFinite, middleOf, Summary, Report, last}
+use Rattle.hagerzhang_rules.specs.Iterations.{standing, had, AskedBecause, EndedBecause}
 use Rattle.jobs.specs.declared.Job.{Job}
-use Rattle.jobs.specs.Format.{Field, Holds, meansOf}
+use Rattle.jobs.specs.Format.{Field, WellFormed, meansOf}
 use Rattle.jobs.specs.declared.Reading.{Reading}
 use Rattle.jobs.specs.Reader.{readTold, ReadSaid}
 use Rattle.jobs.specs.declared.Opened.{Opened}
 use Rattle.jobs.specs.Opening.{jobRows, openedTold, BeginSaid}
-use Rattle.hagerzhang.specs.declared.Started.{Started}
-use Rattle.hagerzhang.specs.declared.Search.{Search}
-use Rattle.hagerzhang.specs.declared.Step.{Step}
+use Rattle.hagerzhang.specs.declared.state.Started.{Started}
+use Rattle.hagerzhang.specs.declared.state.Search.{Search}
+use Rattle.hagerzhang.specs.declared.state.Turn.{Turn}
 use Rattle.hagerzhang.specs.Machine.{startOf, startedTold, StartSaid, AnswerSaid}
 use Rattle.hagerzhang.specs.Meaning.{report, isOver, OfTheStep}
-use Rattle.demands.specs.Runs.{reachedBy, toldAt, one-more, askedBy}
+use Rattle.demands.specs.Runs.{reachedBy, toldAt, and-then, askedBy}
 
 -- ---- an answer to any state, made by hand or not
 
@@ -55,7 +55,7 @@ use Rattle.demands.specs.Runs.{reachedBy, toldAt, one-more, askedBy}
 abbrev pub earlyRows : Search → Float → Float → List Row
 earlyRows s f g = (8, isOver (s .stage)) ∷ (2, not (answerFinite f g)) ∷ []
 
-pub record Answered (s : Search) (f g : Float) (r : Step) : Type 0 where
+pub record Answered (s : Search) (f g : Float) (r : Turn) : Type 0 where
   -- 8 and 2, exactly when; where neither holds, none, or one of the step that would be next
   pub early : (n : ℕ) → given (earlyRows s f g) ≡ some n → refusalIn (told (r .outcome)) ≡ some n
   pub otherwise : given (earlyRows s f g) ≡ none → OfTheStep (refusalIn (told (r .outcome)))
@@ -69,7 +69,7 @@ pub record Answered (s : Search) (f g : Float) (r : Step) : Type 0 where
   -- "Evaluations count every finite answer accepted, those of a refused iteration too."
   pub counts : r .search .evaluations .0
       ≡ cond (isOver (s .stage)) (s .evaluations .0)
-      (cond (answerFinite f g) (counted (s .evaluations .0)) (s .evaluations .0))
+      (cond (answerFinite f g) (oneMore (s .evaluations .0)) (s .evaluations .0))
 
 -- ---- an answer to a search that `start` gave: why it is refused, and what is asked
 
@@ -78,7 +78,7 @@ pub record Answered (s : Search) (f g : Float) (r : Step) : Type 0 where
 pub record Reason (s : Setup) (held : Report) (asked : List Point) (e : Ending ℕ) : Type 0 where
   pub reason : Ending Why
   pub told-as : numbered reason ≡ e
-  pub true-of : Ends s held asked reason
+  pub true-of : EndedBecause s held asked reason
 
 -- what U3 tells when it stands between h and k and has had n answers: 6, then 5, then 7, or its next step
 abbrev pub toldInU3 : Setup → ℕ → Point → Float → Told
@@ -87,27 +87,27 @@ toldInU3 s n h k =
     cond (eqb n (s .options .budget)) (ends (refusal 6))
     (cond (finite d) (cond (h .x <ᶠ d && d <ᶠ k) (asks d) (ends (refusal 7))) (ends (refusal 5)))
 
-module _ (o : Options) (f0 s0 : Float) (t : Step) where
+module _ (o : Options) (f0 s0 : Float) (t : Turn) where
   abbrev s : Setup
   s = setupOf o f0 s0
 
   abbrev b : Search
   b = t .search
 
-  pub record Refused : Type 0 where
+  pub record RefusedRightly : Type 0 where
     -- 2, 5, 6 and 7, a stop and the limit: where one more answer ends the search
     pub ended : (ys : List Reply) (y : Reply) (e : Ending ℕ) → toldAt b ys y ≡ ends e
-        → Reason s (report (reachedBy b (one-more ys y))) (askedBy b (one-more ys y)) e
+        → Reason s (report (reachedBy b (and-then ys y))) (askedBy b (and-then ys y)) e
     -- 6, 5 and 7 in U3, both ways and in this order: what is told where a finite answer leaves the search in U3
     pub in-U3 : (ys : List Reply) (y : Reply) → isOver (reachedBy b ys .stage) ≡ false
         → answerFinite (y .0) (y .1) ≡ true
-        → (p : Last) (h : Point) (k : Float) → report (reachedBy b (one-more ys y)) ≡ last p
-        → standing s (p .bracket) (askedBy b (one-more ys y)) ≡ some (On h k)
-        → toldAt b ys y ≡ toldInU3 s (had s (p .bracket) (askedBy b (one-more ys y))) h k
+        → (p : Summary) (h : Point) (k : Float) → report (reachedBy b (and-then ys y)) ≡ last p
+        → standing s (p .bracket) (askedBy b (and-then ys y)) ≡ some (On h k)
+        → toldAt b ys y ≡ toldInU3 s (had s (p .bracket) (askedBy b (and-then ys y))) h k
     -- every step that is asked is finite; in an iteration for its reason, in U3 strictly between its ends
     pub asks-finite : (ys : List Reply) (y : Reply) (x : Float) → toldAt b ys y ≡ asks x → finite x ≡ true
     pub asks-rightly : (ys : List Reply) (y : Reply) (x : Float) → toldAt b ys y ≡ asks x
-        → (p : Last) → report (reachedBy b (one-more ys y)) ≡ last p → Asks s p (askedBy b (one-more ys y)) x
+        → (p : Summary) → report (reachedBy b (and-then ys y)) ≡ last p → AskedBecause s p (askedBy b (and-then ys y)) x
 
 -- ---- every function that can refuse, but backtracking's (specs/Backtracking.antt): any result of its contract
 
@@ -125,19 +125,19 @@ pub record Demand1 : Type 0 where
   pub start : (o : Options) (f0 s0 : Float) (r : Started) → StartSaid o f0 s0 r
       → Table (refusedBy (startedTold r)) (startRows o f0 s0)
   -- 9, by the format: bytes that hold a job are read as it, and bytes that hold none are refused
-  pub job-read : (bytes : List ℕ) (r : Reading) → ReadSaid bytes r → (fs : List Field) (j : Job) → Holds 0 fs bytes
+  pub job-read : (bytes : List ℕ) (r : Reading) → ReadSaid bytes r → (fs : List Field) (j : Job) → WellFormed 0 fs bytes
       → meansOf fs ≡ value j → readTold r ≡ value j
   pub no-job : (bytes : List ℕ) (r : Reading) → ReadSaid bytes r
-      → ((fs : List Field) (j : Job) → Holds 0 fs bytes → meansOf fs ≡ value j → ⊥) → readTold r ≡ refused 9
+      → ((fs : List Field) (j : Job) → WellFormed 0 fs bytes → meansOf fs ≡ value j → ⊥) → readTold r ≡ refused 9
   -- 9, then 2, 3, 4, over the whole job, with no search
   pub no-job-begun : (bytes : List ℕ) (r : Opened) → BeginSaid bytes r
-      → ((fs : List Field) (j : Job) → Holds 0 fs bytes → meansOf fs ≡ value j → ⊥) → openedTold r ≡ refused 9
-  pub job : (bytes : List ℕ) (r : Opened) → BeginSaid bytes r → (fs : List Field) (j : Job) → Holds 0 fs bytes
+      → ((fs : List Field) (j : Job) → WellFormed 0 fs bytes → meansOf fs ≡ value j → ⊥) → openedTold r ≡ refused 9
+  pub job : (bytes : List ℕ) (r : Opened) → BeginSaid bytes r → (fs : List Field) (j : Job) → WellFormed 0 fs bytes
       → meansOf fs ≡ value j → Table (refusedBy (openedTold r)) (jobRows j)
   -- 8 and 2, of any state; "If an answer from the curve is not finite, refusal 2 applies."
-  pub answer : (s : Search) (f g : Float) (r : Step) → AnswerSaid s f g r → Answered s f g r
-  pub curve-answer : (s : Search) (c : Curve) (x : Float) (r : Step) → AnswerSaid s (valueOf c x) (slopeOf c x) r
+  pub answer : (s : Search) (f g : Float) (r : Turn) → AnswerSaid s f g r → Answered s f g r
+  pub curve-answer : (s : Search) (c : Curve) (x : Float) (r : Turn) → AnswerSaid s (valueOf c x) (slopeOf c x) r
       → isOver (s .stage) ≡ false → answerFinite (valueOf c x) (slopeOf c x) ≡ false
       → refusalIn (told (r .outcome)) ≡ some 2
   -- 2, 5, 6, 7, of any search that `start` gave
-  pub search-given : (o : Options) (f0 s0 : Float) (t : Step) → startOf o f0 s0 ≡ value t → Refused o f0 s0 t
+  pub search-given : (o : Options) (f0 s0 : Float) (t : Turn) → startOf o f0 s0 ≡ value t → RefusedRightly o f0 s0 t

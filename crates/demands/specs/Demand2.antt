@@ -12,28 +12,28 @@ use lib.Ieee.{Float, isNan}
 use Rattle.refusals.specs.Results.{value}
 use Rattle.refusals.specs.declared.Refusal.{Refusal}
 use Rattle.runs.specs.Outcomes.{refusal, unreachable, told}
-use Rattle.runs.specs.Asking.{Search as Rest, over, Reply, shown, reported, awaits, outcomes, after}
+use Rattle.runs.specs.Asking.{Rest, endWith, Reply, shown, reported, awaits, outcomes, after}
 use Rattle.runs.specs.Outcomes.{refusalIn}
 use Rattle.hagerzhang_rules.specs.declared.Options.{Options}
 use Rattle.hagerzhang_rules.specs.Parameters.{setupOf}
-use Rattle.hagerzhang_rules.specs.Rules.{answerFinite, Report, search}
+use Rattle.hagerzhang_rules.specs.Rules.{answerFinite, Report, hagerZhang}
 use Rattle.hagerzhang_rules.specs.Iterations.{reportFinite}
 use Rattle.curves.specs.declared.Curve.{Curve}
 use Rattle.jobs.specs.declared.Opened.the-variants.{Begun}
 use Rattle.jobs.specs.Opening.{BeginSaid}
-use Rattle.hagerzhang.specs.declared.Search.{Search}
-use Rattle.hagerzhang.specs.declared.Step.{Step}
-use Rattle.hagerzhang.specs.declared.Started.the-variants.{NoSearch}
-use Rattle.hagerzhang.specs.Machine.{dueIn, startOf, AnswerSaid}
+use Rattle.hagerzhang.specs.declared.state.Search.{Search}
+use Rattle.hagerzhang.specs.declared.state.Turn.{Turn}
+use Rattle.hagerzhang.specs.declared.state.Started.the-variants.{NoSearch}
+use Rattle.hagerzhang.specs.Machine.{awaitedOf, startOf, AnswerSaid}
 use Rattle.hagerzhang.specs.Meaning.{report, dueTold, Starts, Follows}
 use Rattle.demands.specs.Runs.{reachedBy, toldBy}
 
 -- ---- a search t that `start` gave for the options o, and the cost f0 and slope s0 at step 0
 
-module _ (o : Options) (f0 s0 : Float) (t : Step) where
+module _ (o : Options) (f0 s0 : Float) (t : Turn) where
   -- the search as 01 writes it
   abbrev rules : Rest Report
-  rules = search (setupOf o f0 s0)
+  rules = hagerZhang (setupOf o f0 s0)
 
   pub record ByRules : Type 0 where
     -- "steps .. and verdict": what is told first, and after each of any answers
@@ -41,32 +41,32 @@ module _ (o : Options) (f0 s0 : Float) (t : Step) where
     pub outcomes-are-rules : (ys : List Reply) → toldBy (t .search) ys ≡ outcomes rules ys
     -- "bracket, best step": what is held after any answers, or none yet; and the step at which it awaits the next
     pub report-is-rules : (ys : List Reply) → report (reachedBy (t .search) ys) ≡ reported (after rules ys)
-    pub awaited-is-rules : (ys : List Reply) → dueTold (dueIn (reachedBy (t .search) ys)) ≡ awaits (after rules ys)
+    pub awaited-is-rules : (ys : List Reply) → dueTold (awaitedOf (reachedBy (t .search) ys)) ≡ awaits (after rules ys)
     -- "The Rust's "unreachable point" error cannot occur here."
-    pub never-unreachable : (ys : List Reply) (k : Report) → after rules ys ≡ over k (refusal unreachable) → ⊥
+    pub never-unreachable : (ys : List Reply) (k : Report) → after rules ys ≡ endWith k (refusal unreachable) → ⊥
     -- every number that is ever reported is finite; so one of 01's three tests for the best held
     pub report-finite : (ys : List Reply) → reportFinite (report (reachedBy (t .search) ys)) ≡ true
     -- 01's empty programs break this: "One that refuses everything, one that asks the same step each time, and one that
     -- hands the state back untouched", at a start, or at the first answer
     pub refusing-start-shut-out : (k : Refusal) → Starts o f0 s0 (NoSearch k) → ⊥
-    pub refusing-shut-out : (f g : Float) → answerFinite f g ≡ true → (r : Step) → Follows (t .search) f g r → (n : ℕ)
+    pub refusing-shut-out : (f g : Float) → answerFinite f g ≡ true → (r : Turn) → Follows (t .search) f g r → (n : ℕ)
         → refusalIn (told (r .outcome)) ≡ some n → ⊥
-    pub same-step-shut-out : (f g : Float) → answerFinite f g ≡ true → (r : Step) → Follows (t .search) f g r
+    pub same-step-shut-out : (f g : Float) → answerFinite f g ≡ true → (r : Turn) → Follows (t .search) f g r
         → told (r .outcome) ≡ told (t .outcome) → ⊥
-    pub untouched-shut-out : (f g : Float) → answerFinite f g ≡ true → (r : Step) → Follows (t .search) f g r
+    pub untouched-shut-out : (f g : Float) → answerFinite f g ≡ true → (r : Turn) → Follows (t .search) f g r
         → r .search ≡ t .search → ⊥
 
 -- a search that some start gave
-pub record GivenByStart (t : Step) : Type 0 where
+pub record GivenByStart (t : Turn) : Type 0 where
   pub o : Options
   pub f0 : Float
   pub s0 : Float
   pub given : startOf o f0 s0 ≡ value t
 
 pub record Demand2 : Type 0 where
-  pub search-given : (o : Options) (f0 s0 : Float) (t : Step) → startOf o f0 s0 ≡ value t → ByRules o f0 s0 t
+  pub search-given : (o : Options) (f0 s0 : Float) (t : Turn) → startOf o f0 s0 ≡ value t → ByRules o f0 s0 t
   -- a job's search is one
-  pub job-given : (bytes : List ℕ) (c : Curve) (t : Step) → BeginSaid bytes (Begun c t) → GivenByStart t
+  pub job-given : (bytes : List ℕ) (c : Curve) (t : Turn) → BeginSaid bytes (Begun c t) → GivenByStart t
   -- one answer to any state, made by hand or not, whose limit is a u32 and whose L is no NaN: it is the rules' answer
-  pub any-state : (s : Search) (f g : Float) (r : Step) → AnswerSaid s f g r → s .setup .options .limit < 4294967296
+  pub any-state : (s : Search) (f g : Float) (r : Turn) → AnswerSaid s f g r → s .setup .options .limit < 4294967296
       → isNan (s .setup .level) ≡ false → Follows s f g r

@@ -14,24 +14,24 @@ use Rattle.hagerzhang_rules.specs.declared.Point.{Point}
 use Rattle.hagerzhang_rules.specs.declared.Options.{Options}
 use Rattle.hagerzhang_rules.specs.declared.Setup.{Setup}
 use Rattle.hagerzhang_rules.specs.Parameters.{setupOf}
-use Rattle.hagerzhang_rules.specs.Rules.{point, Last, Report, last, iterationsIn}
-use Rattle.hagerzhang_rules.specs.Iterations.{Premise, Bracketed, Within, Finished, Moves}
-use Rattle.hagerzhang.specs.declared.Search.{Search}
-use Rattle.hagerzhang.specs.declared.Step.{Step}
+use Rattle.hagerzhang_rules.specs.Rules.{point, Summary, Report, last, iterationsIn}
+use Rattle.hagerzhang_rules.specs.Iterations.{Premise, Bracketed, Within, Whole, Brings}
+use Rattle.hagerzhang.specs.declared.state.Search.{Search}
+use Rattle.hagerzhang.specs.declared.state.Turn.{Turn}
 use Rattle.hagerzhang.specs.Machine.{startOf}
 use Rattle.hagerzhang.specs.Meaning.{report, isOver}
-use Rattle.demands.specs.Runs.{reachedBy, toldAt, one-more, finiteBy, notFiniteBy, askedBy, askedAt, finishedBy}
+use Rattle.demands.specs.Runs.{reachedBy, toldAt, and-then, finiteBy, notFiniteBy, askedBy, askedAt, finishedBy}
 
 -- a search ended at its n-th iteration, with the best step x
 pub record AtLimit (n : ℕ) (x : Float) (held : Report) : Type 0 where
-  pub p : Last
+  pub p : Summary
   pub holds : held ≡ last p
   pub iterations : p .iterations ≡ n
   pub best : p .best .x ≡ x
 
 -- ---- a search t that `start` gave for the options o, and the cost f0 and slope s0 at step 0
 
-module _ (o : Options) (f0 s0 : Float) (t : Step) where
+module _ (o : Options) (f0 s0 : Float) (t : Turn) where
   abbrev s : Setup
   s = setupOf o f0 s0
 
@@ -49,21 +49,21 @@ module _ (o : Options) (f0 s0 : Float) (t : Step) where
     -- "Let the answered starting ends have low slope < 0, low cost <= L .. and high slope >= 0. Then after each
     -- finished iteration the bracket meets the same three, low step < high step": whatever bracket is held
     pub bracket-stays : (ya yb yc : Reply) (ys : List Reply) → Premise (s .level) (low-end ya) (high-end yb)
-        → (p : Last) → report (reachedBy b (ya ∷ yb ∷ yc ∷ ys)) ≡ last p → Bracketed (s .level) (p .bracket)
+        → (p : Summary) → report (reachedBy b (ya ∷ yb ∷ yc ∷ ys)) ≡ last p → Bracketed (s .level) (p .bracket)
     -- "and it lies within the former bracket": where one more answer counts one more iteration
     pub bracket-narrows : (ya yb yc : Reply) (ys : List Reply) → Premise (s .level) (low-end ya) (high-end yb)
-        → (y : Reply) (p q : Last)
+        → (y : Reply) (p q : Summary)
         → report (reachedBy b (ya ∷ yb ∷ yc ∷ ys)) ≡ last p
-        → report (reachedBy b (one-more (ya ∷ yb ∷ yc ∷ ys) y)) ≡ last q
+        → report (reachedBy b (and-then (ya ∷ yb ∷ yc ∷ ys) y)) ≡ last q
         → q .iterations ≡ p .iterations + 1
         → Within (p .bracket) (q .bracket)
     -- "Each end is, bit for bit, a former end or a step asked in that iteration with its answer": whatever the slopes
     -- are; and its answers are those of a whole iteration
-    pub each-iteration : (ys : List Reply) (y : Reply) (p q : Last)
+    pub each-iteration : (ys : List Reply) (y : Reply) (p q : Summary)
         → report (reachedBy b ys) ≡ last p
-        → report (reachedBy b (one-more ys y)) ≡ last q
+        → report (reachedBy b (and-then ys y)) ≡ last q
         → q .iterations ≡ p .iterations + 1
-        → Finished s p (askedAt b ys y) q
+        → Whole s p (askedAt b ys y) q
     -- "an iteration takes at most 3+3B answers": also one that is not finished
     pub iteration-bounded : (ys : List Reply) → length (askedBy b ys) ≤ 3 + 3 * o .budget
     -- "any search ends within 3+N(3+3B)"
@@ -75,14 +75,14 @@ module _ (o : Options) (f0 s0 : Float) (t : Step) where
     -- 01 on the counts: each answer leaves the report as it was, or gives the first, or finishes an iteration, which is
     -- counted; so the iterations are those that the answers finished, N at most
     pub each-answer : (ys : List Reply) (y : Reply)
-        → Moves (Finished s) (askedAt b ys y) (report (reachedBy b ys)) (report (reachedBy b (one-more ys y)))
+        → Brings (Whole s) (askedAt b ys y) (report (reachedBy b ys)) (report (reachedBy b (and-then ys y)))
     pub iterations-counted : (ys : List Reply) → iterationsIn (report (reachedBy b ys)) ≡ finishedBy b ys
     pub iterations-bounded : (ys : List Reply) → iterationsIn (report (reachedBy b ys)) ≤ o .limit
     -- ""limit", with bracket and best of the N-th iteration"
     pub at-limit : (ys : List Reply) (y : Reply) (x : Float) → toldAt b ys y ≡ ends (limit x)
-        → AtLimit (o .limit) x (report (reachedBy b (one-more ys y)))
+        → AtLimit (o .limit) x (report (reachedBy b (and-then ys y)))
     -- an answer that is not finite is at most one
     pub non-finite-once : (ys : List Reply) → notFiniteBy b ys ≤ 1
 
 pub record Demand3 : Type 0 where
-  pub search-given : (o : Options) (f0 s0 : Float) (t : Step) → startOf o f0 s0 ≡ value t → Bounded o f0 s0 t
+  pub search-given : (o : Options) (f0 s0 : Float) (t : Turn) → startOf o f0 s0 ≡ value t → Bounded o f0 s0 t

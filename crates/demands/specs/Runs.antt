@@ -11,8 +11,8 @@ use Rattle.runs.specs.Asking.{Reply, reached, played, tallied}
 use Rattle.hagerzhang_rules.specs.declared.Point.{Point}
 use Rattle.hagerzhang_rules.specs.Rules.{point, answerFinite, iterationsIn}
 use Rattle.hagerzhang_rules.specs.Iterations.{progress}
-use Rattle.hagerzhang.specs.declared.Search.{Search}
-use Rattle.hagerzhang.specs.Machine.{dueIn, answerOf}
+use Rattle.hagerzhang.specs.declared.state.Search.{Search}
+use Rattle.hagerzhang.specs.Machine.{awaitedOf, answerOf}
 use Rattle.hagerzhang.specs.Meaning.{report, isOver, dueTold}
 
 -- one answer
@@ -32,8 +32,8 @@ toldBy s ys = played next says s ys
 abbrev pub toldAt : Search → List Reply → Reply → Told
 toldAt s ys y = says (reachedBy s ys) (y .0) (y .1)
 
-abbrev pub one-more : List Reply → Reply → List Reply
-one-more ys y = ys ++ (y ∷ [])
+abbrev pub and-then : List Reply → Reply → List Reply
+and-then ys y = ys ++ (y ∷ [])
 
 abbrev pub isAsking : Search → Bool
 isAsking s = not (isOver (s .stage))
@@ -52,7 +52,7 @@ note (some x) y asked = point x (y .0) (y .1) ∷ asked
 note none y asked = asked
 
 abbrev pub noteBy : Search → Reply → List Point → List Point
-noteBy s y asked = note (dueTold (dueIn s)) y asked
+noteBy s y asked = note (dueTold (awaitedOf s)) y asked
 
 unfoldable pub askedFrom : List Point → Search → List Reply → List Point
 askedFrom asked s [] = asked

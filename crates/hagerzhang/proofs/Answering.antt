@@ -13,62 +13,64 @@ use Rattle.runs.specs.declared.Outcome.{Outcome}
 use Rattle.runs.specs.declared.Outcome.the-variants.{Ask}
 use Rattle.runs.proofs.Apart.{asks-not-ends}
 use Rattle.runs.specs.Asking.{reported, awaits}
-use Rattle.runs.specs.Counters.{counted}
+use Rattle.runs.specs.Counters.{oneMore}
 use Rattle.floats.proofs.Branches.{either, by-test}
 use Rattle.hagerzhang_rules.specs.declared.Setup.{Setup}
 use Rattle.hagerzhang_rules.specs.declared.Point.{Point}
 use Rattle.hagerzhang_rules.specs.declared.Bracket.{Bracket}
 use Rattle.hagerzhang_rules.specs.Rules.{answerFinite, middleOf}
 use Rattle.hagerzhang_rules.proofs.StaysBracket.{if-so}
-use Rattle.hagerzhang.specs.declared.Finished.{Finished}
-use Rattle.hagerzhang.specs.declared.Trial.{Trial}
-use Rattle.hagerzhang.specs.declared.Ends.{Ends}
-use Rattle.hagerzhang.specs.declared.Move.{Move}
-use Rattle.hagerzhang.specs.declared.Move.the-variants.{Try, Narrow, Stop as ByVerdict, Limit as ByLimit}
+use Rattle.hagerzhang.specs.declared.state.Finished.{Finished}
+use Rattle.hagerzhang.specs.declared.state.Trial.{Trial}
+use Rattle.hagerzhang.specs.declared.state.Narrowing.{Narrowing}
+use Rattle.hagerzhang.specs.declared.moves.Move.{Move}
+use Rattle.hagerzhang.specs.declared.moves.Move.the-variants.{Try, Narrow, Stop as ByVerdict, Limit as ByLimit}
 use Rattle.hagerzhang.specs.declared.moves.Tested.{Tested}
 use Rattle.hagerzhang.specs.declared.moves.Tested.the-variants.{Try as Asks, Narrow as Narrows, End as Stops}
-use Rattle.hagerzhang.specs.declared.Then.{Then}
-use Rattle.hagerzhang.specs.declared.Then.the-variants.{Go, Close}
-use Rattle.hagerzhang.specs.declared.Kept.{Kept}
-use Rattle.hagerzhang.specs.declared.Due.{Due}
-use Rattle.hagerzhang.specs.declared.Waiting.{Waiting}
-use Rattle.hagerzhang.specs.declared.Waiting.the-variants.{Low, High, Start, Running}
-use Rattle.hagerzhang.specs.declared.Stage.{Stage}
-use Rattle.hagerzhang.specs.declared.Stage.the-variants.{Open, Over}
-use Rattle.hagerzhang.specs.declared.Search.{Search}
-use Rattle.hagerzhang.specs.declared.Step.{Step}
-use Rattle.hagerzhang.specs.Machine.{attemptOf, probeOf, testedOf, madeBy, madeOf, wentOf, reactOf, keptAt, keptIn, dueAt, dueIn, takenOf, answerBy}
+use Rattle.hagerzhang.specs.declared.iteration.Then.{Then}
+use Rattle.hagerzhang.specs.declared.iteration.Then.the-variants.{Go, Close}
+use Rattle.hagerzhang.specs.declared.state.Kept.{Kept}
+use Rattle.hagerzhang.specs.declared.state.Due.{Due}
+use Rattle.hagerzhang.specs.declared.state.Waiting.{Waiting}
+use Rattle.hagerzhang.specs.declared.state.Waiting.the-variants.{Low, High, StartStep, Running}
+use Rattle.hagerzhang.specs.declared.state.Stage.{Stage}
+use Rattle.hagerzhang.specs.declared.state.Stage.the-variants.{Open, Over}
+use Rattle.hagerzhang.specs.declared.state.Search.{Search}
+use Rattle.hagerzhang.specs.declared.state.Turn.{Turn}
+use Rattle.hagerzhang.specs.Moves.{attemptOf, probeOf, testOf, madeBy, madeOf}
+use Rattle.hagerzhang.specs.Iteration.{wentOf}
+use Rattle.hagerzhang.specs.Machine.{reactOf, heldAt, heldOf, awaitedAt, awaitedOf, takenOf, answerBy}
 use Rattle.hagerzhang.specs.Meaning.{keptReport, dueTold, OfTheStep, not-refused, six, five, seven, meaning, meant}
 
 pub setup-kept : (b : Search) (f g : Float) (stage : Stage) → answerBy b f g stage .search .setup ≡ b .setup
 unfolding answerBy takenOf
-setup-kept b f g (Open waiting) = either (λ (r : Step). r .search .setup) (answerFinite f g) _ _ (b .setup) refl refl
+setup-kept b f g (Open waiting) = either (λ (r : Turn). r .search .setup) (answerFinite f g) _ _ (b .setup) refl refl
 setup-kept b f g (Over kept) = refl
 
 pub one-more-if-finite : (b : Search) (f g : Float) (waiting : Waiting)
     → answerBy b f g (Open waiting) .search .evaluations .0
-    ≡ cond (answerFinite f g) (counted (b .evaluations .0)) (b .evaluations .0)
+    ≡ cond (answerFinite f g) (oneMore (b .evaluations .0)) (b .evaluations .0)
 unfolding answerBy takenOf
 one-more-if-finite b f g waiting =
-    by-test (λ (r : Step). r .search .evaluations .0) (answerFinite f g) _ _ (counted (b .evaluations .0))
+    by-test (λ (r : Turn). r .search .evaluations .0) (answerFinite f g) _ _ (oneMore (b .evaluations .0))
     (b .evaluations .0) refl refl
 
 -- what is held and what is awaited are what the rules report and await
-pub reports : (s : Setup) (stage : Stage) → reported (meaning s stage) ≡ keptReport (keptAt stage)
-unfolding meaning reported keptAt
+pub reports : (s : Setup) (stage : Stage) → reported (meaning s stage) ≡ keptReport (heldAt stage)
+unfolding meaning reported heldAt
 reports s (Open waiting) = refl
 reports s (Over kept) = refl
 
-pub awaited : (s : Setup) (stage : Stage) → awaits (meaning s stage) ≡ dueTold (dueAt s stage)
-unfolding meaning awaits dueAt
+pub awaited : (s : Setup) (stage : Stage) → awaits (meaning s stage) ≡ dueTold (awaitedAt s stage)
+unfolding meaning awaits awaitedAt
 awaited s (Open waiting) = refl
 awaited s (Over kept) = refl
 
 -- what `held` and `awaited` promise of their results
-pub held-promised : (s : Search) (r : Kept) → r ≡ keptIn s → (r ≡ keptIn s) × (keptReport r ≡ reported (meant s))
+pub held-promised : (s : Search) (r : Kept) → r ≡ heldOf s → (r ≡ heldOf s) × (keptReport r ≡ reported (meant s))
 held-promised s r e = (e, ap keptReport e ∙ sym (reports (s .setup) (s .stage)))
 
-pub awaited-promised : (s : Search) (r : Due) → r ≡ dueIn s → (r ≡ dueIn s) × (dueTold r ≡ awaits (meant s))
+pub awaited-promised : (s : Search) (r : Due) → r ≡ awaitedOf s → (r ≡ awaitedOf s) × (dueTold r ≡ awaits (meant s))
 awaited-promised s r e = (e, ap dueTold e ∙ sym (awaited (s .setup) (s .stage)))
 
 -- ---- what a finite answer to any state can come to
@@ -80,7 +82,7 @@ pub data Said : Stage → Outcome → Type 0 where
 
 data Fine : Tested → Type 0 where
   tries : {u : Bracket} {t : Trial} → Fine (Asks u t)
-  narrows : {t : Trial} {e : Ends} → Fine (Narrows t e)
+  narrows : {t : Trial} {e : Narrowing} → Fine (Narrows t e)
   stops : {o : Outcome} → OfTheStep (refusalIn (told o)) → ((x : Float) → told o ≡ asks x → ⊥) → Fine (Stops o)
 
 -- the machine's cases are private to it
@@ -99,8 +101,8 @@ probe-fine theta t h k left =
     (λ e. if-so Fine (h .x <ᶠ d && d <ᶠ k) (λ e. narrows) (λ e. stops seven (λ x q. asks-not-ends x _ q)))
     (λ e. stops five (λ x q. asks-not-ends x _ q)))
 
-tested-fine : (theta best : Float) (m : Move) → Fine (testedOf theta best m)
-unfolding testedOf attemptOf
+tested-fine : (theta best : Float) (m : Move) → Fine (testOf theta best m)
+unfolding testOf attemptOf
 tested-fine theta best (Try u t) =
     if-so Fine (finite (t .x)) (λ e. tries) (λ e. stops five (λ x q. asks-not-ends x _ q))
 tested-fine theta best (Narrow t h k left) = probe-fine theta t h k left
@@ -120,5 +122,5 @@ pub react-said : (s : Setup) (waiting : Waiting) (f g : Float) → let n = react
 unfolding reactOf
 react-said s Low f g = goes-on
 react-said s (High a) f g = goes-on
-react-said s (Start w) f g = made-said (s .options .params .theta) _ _
+react-said s (StartStep w) f g = made-said (s .options .params .theta) _ _
 react-said s (Running fin t asked) f g = went-said s fin _

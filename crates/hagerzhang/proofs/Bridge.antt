@@ -12,14 +12,14 @@ use borrow.Author.Tests.{leb-true, leb-false, ne-eqb}
 use Rattle.floats.specs.Arithmetic.{_<ᶠ_}
 use Rattle.refusals.specs.Results.{Result, value, refused}
 use Rattle.runs.specs.Outcomes.{limit, refusal, Told, ends, told}
-use Rattle.runs.specs.Asking.{Search as Rest, over, keeping, respond, shown, firstOf, onceTold}
-use Rattle.runs.specs.Counters.{counted, evaluations, iterations}
+use Rattle.runs.specs.Asking.{Rest, endWith, keeping, respond, shown, firstOf, onceTold}
+use Rattle.runs.specs.Counters.{oneMore, evaluations, iterations}
 use Rattle.runs.proofs.Machines.{Seen, seen, picks, picks-by, counts-on}
 use Rattle.refusals.proofs.Refusals.{alike}
 use Rattle.runs.specs.declared.Evaluations.{Evaluations}
 use Rattle.floats.proofs.Branches.{and-first, and-second}
-use Rattle.hagerzhang.specs.declared.Asked.{Asked}
-use Rattle.hagerzhang.specs.declared.Asked.the-variants.{Update, Between}
+use Rattle.hagerzhang.specs.declared.state.Asked.{Asked}
+use Rattle.hagerzhang.specs.declared.state.Asked.the-variants.{Update, Between}
 use Rattle.hagerzhang_rules.specs.declared.Point.{Point}
 use Rattle.hagerzhang_rules.specs.declared.Bracket.{Bracket}
 use Rattle.hagerzhang_rules.specs.declared.Options.{Options}
@@ -30,34 +30,36 @@ use Rattle.hagerzhang_rules.specs.declared.Further.{Further}
 use Rattle.hagerzhang_rules.specs.declared.Further.the-variants.{Nothing, At}
 use Rattle.hagerzhang_rules.specs.declared.Judged.{Judged}
 use Rattle.hagerzhang_rules.specs.declared.Judged.the-variants.{Holds, Fails}
-use Rattle.hagerzhang.specs.declared.Finished.{Finished}
-use Rattle.hagerzhang.specs.declared.Rule.{Rule}
-use Rattle.hagerzhang.specs.declared.Rule.the-variants.{S1 as ByS1, S4 as ByS4, L2 as ByL2}
-use Rattle.hagerzhang.specs.declared.Trial.{Trial}
-use Rattle.hagerzhang.specs.declared.Waiting.{Waiting}
-use Rattle.hagerzhang.specs.declared.Waiting.the-variants.{Low, High, Start, Running}
-use Rattle.hagerzhang.specs.declared.Stage.{Stage}
-use Rattle.hagerzhang.specs.declared.Stage.the-variants.{Open, Over}
-use Rattle.hagerzhang.specs.declared.Move.{Move}
-use Rattle.hagerzhang.specs.declared.Move.the-variants.{Limit as ByLimit}
+use Rattle.hagerzhang.specs.declared.state.Finished.{Finished}
+use Rattle.hagerzhang.specs.declared.state.Rule.{Rule}
+use Rattle.hagerzhang.specs.declared.state.Rule.the-variants.{S1 as ByS1, S4 as ByS4, L2 as ByL2}
+use Rattle.hagerzhang.specs.declared.state.Trial.{Trial}
+use Rattle.hagerzhang.specs.declared.state.Waiting.{Waiting}
+use Rattle.hagerzhang.specs.declared.state.Waiting.the-variants.{Low, High, StartStep, Running}
+use Rattle.hagerzhang.specs.declared.state.Stage.{Stage}
+use Rattle.hagerzhang.specs.declared.state.Stage.the-variants.{Open, Over}
+use Rattle.hagerzhang.specs.declared.moves.Move.{Move}
+use Rattle.hagerzhang.specs.declared.moves.Move.the-variants.{Limit as ByLimit}
 use Rattle.hagerzhang.specs.declared.moves.Tested.{Tested}
-use Rattle.hagerzhang.specs.declared.Then.{Then}
-use Rattle.hagerzhang.specs.declared.Then.the-variants.{Close}
-use Rattle.hagerzhang.specs.declared.Next.{Next}
-use Rattle.hagerzhang.specs.declared.Search.{Search}
-use Rattle.hagerzhang.specs.declared.Step.{Step}
-use Rattle.hagerzhang.specs.declared.Started.{Started}
-use Rattle.hagerzhang.specs.declared.Started.the-variants.{Began, NoSearch}
+use Rattle.hagerzhang.specs.declared.iteration.Then.{Then}
+use Rattle.hagerzhang.specs.declared.iteration.Then.the-variants.{Close}
+use Rattle.hagerzhang.specs.declared.state.Next.{Next}
+use Rattle.hagerzhang.specs.declared.state.Search.{Search}
+use Rattle.hagerzhang.specs.declared.state.Turn.{Turn}
+use Rattle.hagerzhang.specs.declared.state.Started.{Started}
+use Rattle.hagerzhang.specs.declared.state.Started.the-variants.{Began, NoSearch}
 use Rattle.hagerzhang_rules.specs.Parameters.{setupOf, startRows}
-use Rattle.hagerzhang_rules.specs.Rules.{point, answerFinite, middleOf, secantOf, S4, L2, bestOf, judgedOf, trial, between, U3, updating, update, further, afterS4, afterS1, iteration, Report, reportOf, decided, verdict, rounds, askStart, askHigh, search}
+use Rattle.hagerzhang_rules.specs.Rules.{point, answerFinite, middleOf, secantOf, S4, L2, bestOf, judgeOf, trial, between, U3, updating, update, further, afterS4, afterS1, iteration, Report, reportOf, decided, verdict, rounds, askStart, askHigh, hagerZhang}
 use Rattle.hagerzhang_decisions.proofs.Decides.{decides}
-use Rattle.hagerzhang.specs.Machine.{tryAt, finishedOf, comesOf, leftOf, attemptOf, probeOf, testedOf, madeBy, triedBy, afterS4Of, afterS1Of, followBy, onwardOf, outlookBy, madeOf, settledOf, wentOf, runningOf, reactOf, keptOf, stepAsked, stepOf, takenOf, answerBy, answerOf, fresh, startOf, StartSaid, AnswerSaid}
-use Rattle.hagerzhang.specs.Meaning.{lastOf, keptReport, ended, afterTrial, onAsked, onAnswer, meaning, meant, begun, Starts, Follows}
+use Rattle.hagerzhang.specs.Moves.{triesOf, finishedOf, attemptOf, probeOf, testOf, madeBy, outlookBy, madeOf, settledOf}
+use Rattle.hagerzhang.specs.Iteration.{comesOf, leftOf, triedBy, afterS4Of, afterS1Of, followBy, onwardOf, wentOf, runningOf}
+use Rattle.hagerzhang.specs.Machine.{reactOf, keepsOf, stepAsked, stepDue, takenOf, answerBy, answerOf, freshOf, startOf, StartSaid, AnswerSaid}
+use Rattle.hagerzhang.specs.Meaning.{lastOf, keptReport, closed, afterTrial, onAsked, onAnswer, meaning, meant, begun, Starts, Follows}
 
 denote : Setup → Next → Seen Report
 denote s n = (meaning s (n .stage), told (n .outcome))
 
-denoteStep : Step → Seen Report
+denoteStep : Turn → Seen Report
 denoteStep t = (meant (t .search), told (t .outcome))
 
 -- ---- in an iteration: `fin` is what the last finished one left
@@ -77,9 +79,9 @@ module _ (s : Setup) (fin : Finished) where
 
   -- a trial (5)
   tries : (rule : Rule) (w : Bracket) (x : Float)
-      → moved (tryAt w rule x)
+      → moved (triesOf w rule x)
       ≡ seen (trial s (keeping k) k x (λ c. update s (keeping k) k w c (afterTrial s fin rule x)))
-  unfolding attemptOf testedOf madeBy trial onAnswer onAsked keptOf stepOf stepAsked keptReport denote seen onceTold
+  unfolding attemptOf testOf madeBy trial onAnswer onAsked keepsOf stepDue stepAsked keptReport denote seen onceTold
       shown meaning
   tries rule w x = picks put (finite x) _ _ _ _ refl refl
 
@@ -93,7 +95,7 @@ module _ (s : Setup) (h : s .options .limit < 4294967296) (w : Bracket) (c : Poi
 
   -- what follows the verdict, while n iterations may be begun
   onwards : ℕ → Rest Report
-  onwards zero = over (reportOf s w c i) (limit (bestOf (w .a) (w .b) c .x))
+  onwards zero = endWith (reportOf s w c i) (limit (bestOf (w .a) (w .b) c .x))
   onwards (suc n) = iteration s (keeping (reportOf s w c i)) (reportOf s w c i) w (λ v. rounds s n v c (i + 1))
 
   round-is : (n : ℕ) → verdict s w c i (onwards n) ≡ rounds s n w c i
@@ -102,11 +104,11 @@ module _ (s : Setup) (h : s .options .limit < 4294967296) (w : Bracket) (c : Poi
   round-is (suc n) = refl
 
   limits : (n : ℕ) → n ≡ 0 → moved s done ByLimit ≡ seen (onwards n)
-  unfolding onwards testedOf madeBy denote seen onceTold shown keptReport meaning
+  unfolding onwards testOf madeBy denote seen onceTold shown keptReport meaning
   limits n e = rw e
 
-  begins : (n : ℕ) → counted i ≡ i + 1 → n ≡ suc (N - counted i)
-      → moved s done (tryAt w ByS1 (secantOf (w .a) (w .b))) ≡ seen (onwards n)
+  begins : (n : ℕ) → oneMore i ≡ i + 1 → n ≡ suc (N - oneMore i)
+      → moved s done (triesOf w ByS1 (secantOf (w .a) (w .b))) ≡ seen (onwards n)
   unfolding onwards iteration afterTrial trial
   begins n p e = rw (e, ← p) (tries s done ByS1 w (secantOf (w .a) (w .b)))
 
@@ -115,31 +117,31 @@ module _ (s : Setup) (h : s .options .limit < 4294967296) (w : Bracket) (c : Poi
   unjudged = go (leb N i) refl
     where
       go : (b : Bool) → leb N i ≡ b
-          → moved s done (cond b ByLimit (tryAt w ByS1 (secantOf (w .a) (w .b)))) ≡ seen (onwards (N - i))
+          → moved s done (cond b ByLimit (triesOf w ByS1 (secantOf (w .a) (w .b)))) ≡ seen (onwards (N - i))
       go true e = limits (N - i) (let l : N ≤ i = leb-true N i e in omega arith)
       go false e =
           let l : i < N = leb-false N i e in
-          let p : counted i ≡ i + 1 = counts-on i N h l in
+          let p : oneMore i ≡ i + 1 = counts-on i N h l in
           begins (N - i) p (rw p (omega arith))
 
   judges : (go : Rest Report) → moved s done (outlookBy s done Fails) ≡ seen go → (j : Judged)
       → moved s done (outlookBy s done j) ≡ seen (decided (reportOf s w c i) (done .best .x) go j)
-  unfolding outlookBy decided testedOf madeBy denote seen onceTold shown keptReport meaning
+  unfolding outlookBy decided testOf madeBy denote seen onceTold shown keptReport meaning
   judges go e (Holds v) = refl
   judges go e Fails = e
 
   settles : denote s (settledOf s w c (iterations i)) ≡ seen (rounds s (N - i) w c i)
   unfolding verdict
-  settles = judges (onwards (N - i)) unjudged (judgedOf s (done .best)) ∙ ap seen (round-is (N - i))
+  settles = judges (onwards (N - i)) unjudged (judgeOf s (done .best)) ∙ ap seen (round-is (N - i))
 
 -- ---- the way of an answer in an iteration
 module _ (s : Setup) (h : s .options .limit < 4294967296) (fin : Finished) where
   abbrev gamma : Float
   gamma = s .options .params .gamma
 
-  closes : (v : Bracket) → went s fin (Close v) ≡ seen (ended s fin v)
+  closes : (v : Bracket) → went s fin (Close v) ≡ seen (closed s fin v)
   unfolding wentOf
-  closes v = settles s h v (fin .start) (counted (fin .iterations .0))
+  closes v = settles s h v (fin .c) (oneMore (fin .iterations .0))
 
   -- a further trial, or otherwise what follows
   tried : (u : Bracket) (rule : Rule) (otherwise : Then) (then : Bracket → Rest Report) (f : Further)
@@ -152,17 +154,17 @@ module _ (s : Setup) (h : s .options .limit < 4294967296) (fin : Finished) where
 
   after-S4 : (v : Bracket)
       → went s fin (afterS4Of gamma (fin .bracket) v)
-      ≡ seen (afterS4 s (keeping (lastOf fin)) (lastOf fin) (fin .bracket) v (ended s fin))
+      ≡ seen (afterS4 s (keeping (lastOf fin)) (lastOf fin) (fin .bracket) v (closed s fin))
   unfolding afterS4 afterTrial
-  after-S4 v = tried v ByL2 (Close v) (ended s fin) (L2 gamma (fin .bracket) v) (closes v) (λ x. refl)
+  after-S4 v = tried v ByL2 (Close v) (closed s fin) (L2 gamma (fin .bracket) v) (closes v) (λ x. refl)
 
   after-S1 : (c : Float) (u : Bracket)
       → went s fin (afterS1Of gamma (fin .bracket) c u)
-      ≡ seen (afterS1 s (keeping (lastOf fin)) (lastOf fin) (fin .bracket) c u (ended s fin))
+      ≡ seen (afterS1 s (keeping (lastOf fin)) (lastOf fin) (fin .bracket) c u (closed s fin))
   unfolding afterS1 afterTrial
   after-S1 c u =
       tried u ByS4 (afterS4Of gamma (fin .bracket) u)
-      (λ v. afterS4 s (keeping (lastOf fin)) (lastOf fin) (fin .bracket) v (ended s fin))
+      (λ v. afterS4 s (keeping (lastOf fin)) (lastOf fin) (fin .bracket) v (closed s fin))
       (S4 (fin .bracket) c u) (after-S4 u) (λ x. refl)
 
   follows-on : (rule : Rule) (c : Float) (u : Bracket)
@@ -180,7 +182,7 @@ module _ (s : Setup) (h : s .options .limit < 4294967296) (fin : Finished) where
     narrows : (n : ℕ) (came : Came)
         → went s fin (onwardOf gamma (fin .bracket) t n came)
         ≡ seen (U3 s (keeping (lastOf fin)) (lastOf fin) n came goes-on)
-    unfolding onwardOf wentOf probeOf testedOf madeBy U3 between meaning onAnswer onAsked keptOf stepOf stepAsked
+    unfolding onwardOf wentOf probeOf testOf madeBy U3 between meaning onAnswer onAsked keepsOf stepDue stepAsked
         keptReport denote seen onceTold shown
     narrows zero (To u) = follows-on (t .rule) (t .x) u
     narrows zero (On a k') = refl
@@ -209,9 +211,9 @@ module _ (s : Setup) (h : s .options .limit < 4294967296) (real : isNan (s .leve
   reacts : (waiting : Waiting) (f g : Float) → finite f ≡ true → finite g ≡ true
       → denote s (reactOf s waiting f g) ≡ seen (onAnswer s waiting f g)
   unfolding reactOf onAnswer
-  reacts Low f g ff fg = unfold askHigh keptOf stepOf keptReport denote seen onceTold shown meaning in refl
-  reacts (High a) f g ff fg = unfold askStart keptOf stepOf keptReport denote seen onceTold shown meaning in refl
-  reacts (Start w) f g ff fg = starts-rounds w (point (s .options .params .start) f g)
+  reacts Low f g ff fg = unfold askHigh keepsOf stepDue keptReport denote seen onceTold shown meaning in refl
+  reacts (High a) f g ff fg = unfold askStart keepsOf stepDue keptReport denote seen onceTold shown meaning in refl
+  reacts (StartStep w) f g ff fg = starts-rounds w (point (s .options .params .start) f g)
   reacts (Running fin t asked) f g ff fg = runs s h fin real t asked f g ff fg
 
   answered : (n : Evaluations) (waiting : Waiting) (f g : Float)
@@ -233,32 +235,32 @@ module _ (s : Search) (h : s .setup .options .limit < 4294967296) (real : isNan 
   answers : denoteStep (answerOf s f g) ≡ seen (respond (meant s) f g)
   answers = answers-by (s .stage) refl
 
-  pub follows : (r : Step) → AnswerSaid s f g r → Follows s f g r
+  pub follows : (r : Turn) → AnswerSaid s f g r → Follows s f g r
   unfolding denoteStep seen
   follows r e =
       let z = ap denoteStep e ∙ answers in
       record { tells = ap (λ (p : Seen Report). p .1) z; leaves = ap (λ (p : Seen Report). p .0) z }
 
 -- what `answer` promises of its result
-pub promised : (s : Search) (f g : Float) → s .setup .options .limit < 4294967296 → (r : Step) → AnswerSaid s f g r
+pub promised : (s : Search) (f g : Float) → s .setup .options .limit < 4294967296 → (r : Turn) → AnswerSaid s f g r
     → AnswerSaid s f g r × (isNan (s .setup .level) ≡ false → Follows s f g r)
 promised s f g h r e = (e, λ real. follows s h real f g r e)
 
 -- ---- `start`
-pub starts-whole : (s : Setup) → meaning s (Open Low) ≡ search s
-unfolding meaning keptOf stepOf keptReport onAnswer search askHigh
+pub starts-whole : (s : Setup) → meaning s (Open Low) ≡ hagerZhang s
+unfolding meaning keepsOf stepDue keptReport onAnswer hagerZhang askHigh
 starts-whole s = refl
 
-first-asked : (s : Setup) → told (fresh s .outcome) ≡ shown (search s)
-unfolding shown search
+first-asked : (s : Setup) → told (freshOf s .outcome) ≡ shown (hagerZhang s)
+unfolding shown hagerZhang
 first-asked s = refl
 
 -- what a result of a start stands for, and what it says
-unfoldable pub stands : Result Step → Result (Rest Report)
+unfoldable pub stands : Result Turn → Result (Rest Report)
 stands (value t) = value (meant (t .search))
 stands (refused n) = refused n
 
-unfoldable pub says : Result Step → Told
+unfoldable pub says : Result Turn → Told
 says (value t) = told (t .outcome)
 says (refused n) = ends (refusal n)
 
@@ -268,13 +270,13 @@ module _ (o : Options) (f0 s0 : Float) where
   unfolding stands
   start-stands =
       let s = setupOf o f0 s0 in
-      alike stands (λ v. v) (λ n. refl) (fresh s) (search s) (ap value (starts-whole s)) (startRows o f0 s0)
+      alike stands (λ v. v) (λ n. refl) (freshOf s) (hagerZhang s) (ap value (starts-whole s)) (startRows o f0 s0)
 
   start-says : says (startOf o f0 s0) ≡ firstOf (begun o f0 s0)
   unfolding says
   start-says =
       let s = setupOf o f0 s0 in
-      alike says firstOf (λ n. refl) (fresh s) (search s) (first-asked s) (startRows o f0 s0)
+      alike says firstOf (λ n. refl) (freshOf s) (hagerZhang s) (first-asked s) (startRows o f0 s0)
 
   pub starts : (r : Started) → StartSaid o f0 s0 r → Starts o f0 s0 r
   unfolding stands says

@@ -6,13 +6,13 @@ use Rattle.refusals.specs.Results.{Result, value, refused}
 use Rattle.floats.proofs.Determined.{determined}
 use Rattle.refusals.proofs.Determined.{withNumber, number-back}
 use Rattle.hagerzhang_rules.specs.declared.Options.{Options}
-use Rattle.hagerzhang.specs.declared.Search.{Search}
-use Rattle.hagerzhang.specs.declared.Step.{Step}
-use Rattle.hagerzhang.specs.declared.Started.{Started}
-use Rattle.hagerzhang.specs.declared.Started.the-variants.{Began, NoSearch}
+use Rattle.hagerzhang.specs.declared.state.Search.{Search}
+use Rattle.hagerzhang.specs.declared.state.Turn.{Turn}
+use Rattle.hagerzhang.specs.declared.state.Started.{Started}
+use Rattle.hagerzhang.specs.declared.state.Started.the-variants.{Began, NoSearch}
 use Rattle.hagerzhang.specs.Machine.{startedTold, StartSaid, AnswerSaid}
 
-read : Result Step → Started
+read : Result Turn → Started
 read (value t) = Began t
 read (refused n) = NoSearch (withNumber n)
 
@@ -24,5 +24,5 @@ back (NoSearch k) = ap NoSearch (number-back k)
 pub start-determined : (o : Options) (f0 s0 : Float) (r q : Started) → StartSaid o f0 s0 r → StartSaid o f0 s0 q → r ≡ q
 start-determined o f0 s0 r q e e' = determined startedTold read back r q (e ∙ sym e')
 
-pub answer-determined : (s : Search) (f g : Float) (r q : Step) → AnswerSaid s f g r → AnswerSaid s f g q → r ≡ q
+pub answer-determined : (s : Search) (f g : Float) (r q : Turn) → AnswerSaid s f g r → AnswerSaid s f g q → r ≡ q
 answer-determined s f g r q e e' = e ∙ sym e'

@@ -1,2 +1,5 @@
+pub mod State
+pub mod Moves
+pub mod Iteration
 pub mod Machine
 pub mod Meaning

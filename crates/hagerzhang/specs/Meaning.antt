@@ -8,32 +8,32 @@ use mathlib.Core.Option.{Option, some, none}
 use Rattle.refusals.specs.Results.{Result, value, refused, refuse_else_}
 use Rattle.runs.specs.Outcomes.{refusal, Told, ends, alreadyOver, told}
 use Rattle.refusals.specs.Refusals.{numberOf}
-use Rattle.runs.specs.Asking.{Search as Rest, over, keeping, question, respond, shown, firstOf, onceTold}
-use Rattle.runs.specs.Counters.{counted}
+use Rattle.runs.specs.Asking.{Rest, endWith, keeping, question, respond, shown, firstOf, onceTold}
+use Rattle.runs.specs.Counters.{oneMore}
 use Rattle.hagerzhang_rules.specs.declared.Bracket.{Bracket}
 use Rattle.hagerzhang_rules.specs.declared.Options.{Options}
 use Rattle.hagerzhang_rules.specs.declared.Setup.{Setup}
-use Rattle.hagerzhang.specs.declared.Finished.{Finished}
-use Rattle.hagerzhang.specs.declared.Kept.{Kept}
-use Rattle.hagerzhang.specs.declared.Kept.the-variants.{NoneYet, Last}
-use Rattle.hagerzhang.specs.declared.Rule.{Rule}
-use Rattle.hagerzhang.specs.declared.Rule.the-variants.{S1, S4, L2}
-use Rattle.hagerzhang.specs.declared.Trial.{Trial}
-use Rattle.hagerzhang.specs.declared.Asked.{Asked}
-use Rattle.hagerzhang.specs.declared.Asked.the-variants.{Update, Between}
-use Rattle.hagerzhang.specs.declared.Due.{Due}
-use Rattle.hagerzhang.specs.declared.Due.the-variants.{Step as StepAt, Nothing as NoStep}
-use Rattle.hagerzhang.specs.declared.Waiting.{Waiting}
-use Rattle.hagerzhang.specs.declared.Waiting.the-variants.{Low, High, Start, Running}
-use Rattle.hagerzhang.specs.declared.Stage.{Stage}
-use Rattle.hagerzhang.specs.declared.Stage.the-variants.{Open, Over}
-use Rattle.hagerzhang.specs.declared.Search.{Search}
-use Rattle.hagerzhang.specs.declared.Step.{Step}
-use Rattle.hagerzhang.specs.declared.Started.{Started}
-use Rattle.hagerzhang.specs.declared.Started.the-variants.{Began, NoSearch}
+use Rattle.hagerzhang.specs.declared.state.Finished.{Finished}
+use Rattle.hagerzhang.specs.declared.state.Kept.{Kept}
+use Rattle.hagerzhang.specs.declared.state.Kept.the-variants.{NoneYet, Last}
+use Rattle.hagerzhang.specs.declared.state.Rule.{Rule}
+use Rattle.hagerzhang.specs.declared.state.Rule.the-variants.{S1, S4, L2}
+use Rattle.hagerzhang.specs.declared.state.Trial.{Trial}
+use Rattle.hagerzhang.specs.declared.state.Asked.{Asked}
+use Rattle.hagerzhang.specs.declared.state.Asked.the-variants.{Update, Between}
+use Rattle.hagerzhang.specs.declared.state.Due.{Due}
+use Rattle.hagerzhang.specs.declared.state.Due.the-variants.{Awaited, NothingDue}
+use Rattle.hagerzhang.specs.declared.state.Waiting.{Waiting}
+use Rattle.hagerzhang.specs.declared.state.Waiting.the-variants.{Low, High, StartStep, Running}
+use Rattle.hagerzhang.specs.declared.state.Stage.{Stage}
+use Rattle.hagerzhang.specs.declared.state.Stage.the-variants.{Open, Over}
+use Rattle.hagerzhang.specs.declared.state.Search.{Search}
+use Rattle.hagerzhang.specs.declared.state.Turn.{Turn}
+use Rattle.hagerzhang.specs.declared.state.Started.{Started}
+use Rattle.hagerzhang.specs.declared.state.Started.the-variants.{Began, NoSearch}
 use Rattle.hagerzhang_rules.specs.Parameters.{setupOf, startRows}
-use Rattle.hagerzhang_rules.specs.Rules.{point, answerFinite, narrowedOf, Report, noneYet, last, U3, update, afterS1, afterS4, rounds, askStart, askHigh, search}
-use Rattle.hagerzhang.specs.Machine.{keptOf, keptIn, stepOf}
+use Rattle.hagerzhang_rules.specs.Rules.{point, answerFinite, narrowedOf, Report, noneYet, last, U3, update, afterS1, afterS4, rounds, askStart, askHigh, hagerZhang}
+use Rattle.hagerzhang.specs.Machine.{keepsOf, heldOf, stepDue}
 
 -- ---- what a state reports
 
@@ -46,7 +46,7 @@ keptReport (Last fin) = lastOf fin
 
 -- bracket, best and finished iterations, or none yet
 abbrev pub report : Search → Report
-report s = keptReport (keptIn s)
+report s = keptReport (heldOf s)
 
 abbrev pub isOver : Stage → Bool
 isOver (Open waiting) = false
@@ -54,8 +54,8 @@ isOver (Over kept) = true
 
 -- the step at which an answer is awaited
 abbrev pub dueTold : Due → Option Float
-dueTold (StepAt x) = some x
-dueTold NoStep = none
+dueTold (Awaited x) = some x
+dueTold NothingDue = none
 
 -- no refusal, or one of the step that would be next
 pub data OfTheStep : Option ℕ → Type 0 where
@@ -68,14 +68,14 @@ pub data OfTheStep : Option ℕ → Type 0 where
 
 module _ (s : Setup) (fin : Finished) where
   -- L3, and then the verdict and what follows it
-  abbrev pub ended : Bracket → Rest Report
-  ended v = rounds s (s .options .limit - counted (fin .iterations .0)) v (fin .start) (counted (fin .iterations .0))
+  abbrev pub closed : Bracket → Rest Report
+  closed v = rounds s (s .options .limit - oneMore (fin .iterations .0)) v (fin .c) (oneMore (fin .iterations .0))
 
   -- how the iteration goes on from the update of a trial at c
   unfoldable pub afterTrial : Rule → Float → Bracket → Rest Report
-  afterTrial S1 c u = afterS1 s (keeping (lastOf fin)) (lastOf fin) (fin .bracket) c u ended
-  afterTrial S4 c u = afterS4 s (keeping (lastOf fin)) (lastOf fin) (fin .bracket) u ended
-  afterTrial L2 c u = ended u
+  afterTrial S1 c u = afterS1 s (keeping (lastOf fin)) (lastOf fin) (fin .bracket) c u closed
+  afterTrial S4 c u = afterS4 s (keeping (lastOf fin)) (lastOf fin) (fin .bracket) u closed
+  afterTrial L2 c u = closed u
 
   -- what a finite answer leads to: to the trial itself, or to U3's step
   unfoldable pub onAsked : Trial → Asked → Float → Float → Rest Report
@@ -88,14 +88,14 @@ module _ (s : Setup) (fin : Finished) where
 unfoldable pub onAnswer : Setup → Waiting → Float → Float → Rest Report
 onAnswer s Low f g = askHigh s (point (s .options .params .min) f g)
 onAnswer s (High a) f g = askStart s (record { a = a; b = point (s .options .params .max) f g })
-onAnswer s (Start w) f g = rounds s (s .options .limit) w (point (s .options .params .start) f g) 0
+onAnswer s (StartStep w) f g = rounds s (s .options .limit) w (point (s .options .params .start) f g) 0
 onAnswer s (Running fin t asked) f g = onAsked s fin t asked f g
 
 unfoldable pub meaning : Setup → Stage → Rest Report
 meaning s (Open waiting) =
-    let kept = keptReport (keptOf waiting) in
-    question answerFinite (keeping kept) kept (stepOf s waiting) (onAnswer s waiting)
-meaning s (Over kept) = over (keptReport kept) (refusal alreadyOver)
+    let kept = keptReport (keepsOf waiting) in
+    question answerFinite (keeping kept) kept (stepDue s waiting) (onAnswer s waiting)
+meaning s (Over kept) = endWith (keptReport kept) (refusal alreadyOver)
 
 abbrev pub meant : Search → Rest Report
 meant s = meaning (s .setup) (s .stage)
@@ -107,7 +107,7 @@ startTold (Began r) = value (meant (r .search))
 startTold (NoSearch k) = refused (numberOf k)
 
 abbrev pub begun : Options → Float → Float → Result (Rest Report)
-begun o f0 s0 = refuse (startRows o f0 s0) else search (setupOf o f0 s0)
+begun o f0 s0 = refuse (startRows o f0 s0) else hagerZhang (setupOf o f0 s0)
 
 -- what a start says: the first step, or the refusal
 abbrev pub startSays : Started → Told
@@ -120,6 +120,6 @@ pub record Starts (o : Options) (f0 s0 : Float) (r : Started) : Type 0 where
 
 -- ---- `answer`: what is told is what the rules tell at this answer, and what is left is what they leave
 
-pub record Follows (s : Search) (f g : Float) (r : Step) : Type 0 where
+pub record Follows (s : Search) (f g : Float) (r : Turn) : Type 0 where
   pub tells : told (r .outcome) ≡ shown (respond (meant s) f g)
   pub leaves : meant (r .search) ≡ onceTold (respond (meant s) f g)

@@ -1,13 +1,12 @@
 // The way of an answer in an iteration: what it comes to, and what follows.
 
-use super::Asked;
-use super::Finished;
-use super::Move;
-use super::Next;
-use super::Rule;
-use super::Then;
-use super::Trial;
-use super::moves;
+use crate::moves;
+use crate::moves::Move;
+use crate::state::Asked;
+use crate::state::Finished;
+use crate::state::Next;
+use crate::state::Rule;
+use crate::state::Trial;
 use hagerzhang_decisions::bracketing;
 use hagerzhang_rules::Bracket;
 use hagerzhang_rules::Came;
@@ -15,7 +14,13 @@ use hagerzhang_rules::Further;
 use hagerzhang_rules::Point;
 use hagerzhang_rules::Setup;
 ghost use mathlib.Core.Path.{_≡_};
-ghost use Rattle.hagerzhang.specs.Machine.{comesOf, leftOf, afterS4Of, afterS1Of, followOf, onwardOf, runningOf};
+ghost use Rattle.hagerzhang.specs.Iteration.{comesOf, leftOf, afterS4Of, afterS1Of, followOf, onwardOf, runningOf};
+
+// What follows in the iteration: a move, or its end with a bracket.
+enum Then {
+    Go(Move),
+    Close(Bracket),
+}
 
 pub(crate) fn running(s: Setup, last: Finished, t: Trial, asked: Asked, f: f64, g: f64) -> Next
     ensures { λ r. ⌜ r ≡ runningOf s last t asked f g ⌝ }
@@ -29,7 +34,7 @@ pub(crate) fn running(s: Setup, last: Finished, t: Trial, asked: Asked, f: f64, 
         comes(s.level, t, asked, f, g),
     ) {
         Then::Go(m) => moves::made(s.options.params.theta, last, m),
-        Then::Close(u) => moves::settled(s, u, last.start, last.iterations.next()),
+        Then::Close(u) => moves::settled(s, u, last.c, last.iterations.next()),
     }
 }
 

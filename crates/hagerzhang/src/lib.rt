@@ -1,7 +1,11 @@
 // Hager-Zhang as a machine. The search hands out a step and is given cost and slope there. An answer comes to a bracket
 // or goes on in U3 (Came), something follows in the iteration (Then), the search moves (Move), and one place writes the
-// next state.
+// next state. The files go down in this order: the entry here, iteration.rt, moves.rt, state.rt.
 
+use crate::state::Next;
+use crate::state::asks;
+use crate::state::ended;
+use crate::state::turned;
 use hagerzhang_decisions::parameters;
 use hagerzhang_rules::Bracket;
 use hagerzhang_rules::Options;
@@ -11,115 +15,31 @@ use refusals::Refusal;
 use runs::Evaluations;
 use runs::Iterations;
 use runs::Outcome;
-use runs::Verdict;
 ghost use mathlib.Core.Path.{_≡_};
 ghost use mathlib.Core.Bool.{false};
 ghost use lib.Ieee.{isNan};
 ghost use Rattle.runs.specs.Asking.{reported, awaits};
 ghost use Rattle.runs.specs.Counters.{iterations};
 ghost use Rattle.hagerzhang_rules.specs.Rules.{iterationsIn};
-ghost use Rattle.hagerzhang.specs.Machine.{fresh, StartSaid, AnswerSaid, asking, ending, stepTo, reactOf, keptOf, keptIn, stepAsked, stepOf, dueIn, takenOf};
+ghost use Rattle.hagerzhang.specs.Machine.{freshOf, StartSaid, AnswerSaid, reactOf, keepsOf, heldOf, stepAsked, stepDue, awaitedOf, takenOf};
 ghost use Rattle.hagerzhang.specs.Meaning.{keptReport, dueTold, meant, Starts, Follows};
 
 mod iteration; // the way of an answer in an iteration, up to a move or its end
 mod moves; // the end of an iteration, and a move made
+mod state; // the state, and its three builders
 
-// ---- the state
-
-// What a finished iteration left, or the start: bracket, start point c, best, and how many iterations are finished.
-pub struct Finished {
-    pub bracket: Bracket,
-    pub start: Point,
-    pub best: Point,
-    pub iterations: Iterations,
-}
-
-// What a search that is over keeps. During the first three answers there is no bracket and no best.
-pub enum Kept {
-    NoneYet,
-    Last(Finished),
-}
-
-// The rule of 01 by which a trial is asked.
-pub enum Rule {
-    S1,
-    S4,
-    L2,
-}
-
-pub struct Trial {
-    pub rule: Rule,
-    pub x: f64,
-}
-
-// U3 asked d between h and k, and after this answer `left` more may come.
-pub struct Ends {
-    pub h: Point,
-    pub k: f64,
-    pub d: f64,
-    pub left: u32,
-}
-
-// What an iteration asked: the trial's own step, to update a bracket with, or a step of U3.
-pub enum Asked {
-    Update(Bracket),
-    Between(Ends),
-}
-
-// The step at which an answer is awaited, if there is one.
-pub enum Due {
-    Step(f64),
-    Nothing,
-}
-
-// What the search waits for: the answers of the start, or one in an iteration.
-pub enum Waiting {
-    Low,
-    High(Point),
-    Start(Bracket),
-    Running(Finished, Trial, Asked),
-}
-
-pub enum Stage {
-    Open(Waiting),
-    Over(Kept),
-}
-
-pub struct Search {
-    pub setup: Setup,
-    pub evaluations: Evaluations,
-    pub stage: Stage,
-}
-
-pub struct Step {
-    pub search: Search,
-    pub outcome: Outcome,
-}
-
-pub enum Started {
-    Began(Step),
-    NoSearch(Refusal),
-}
-
-struct Next {
-    stage: Stage,
-    outcome: Outcome,
-}
-
-// What is due next: a trial's step, a step of U3 between h and k while so many answers may come, or the end by a
-// verdict or the limit.
-enum Move {
-    Try(Bracket, Trial),
-    Narrow(Trial, Point, f64, u32),
-    Stop(Verdict),
-    Limit,
-}
-
-// What follows in the iteration: a move, or its end with a bracket.
-enum Then {
-    Go(Move),
-    Close(Bracket),
-}
+pub use state::Asked;
+pub use state::Due;
+pub use state::Finished;
+pub use state::Kept;
+pub use state::Narrowing;
+pub use state::Rule;
+pub use state::Search;
+pub use state::Stage;
+pub use state::Started;
+pub use state::Trial;
+pub use state::Turn;
+pub use state::Waiting;
 
 // ---- a start
 
@@ -139,7 +59,7 @@ pub fn start(o: Options, f0: f64, s0: f64) -> Started
     if !numbers::both_finite(epsilon_k, level) {
         return Started::NoSearch(Refusal::ResultNotFinite);
     }
-    Started::Began(fresh_search(Setup {
+    Started::Began(fresh(Setup {
         options: o,
         f0,
         s0,
@@ -148,24 +68,24 @@ pub fn start(o: Options, f0: f64, s0: f64) -> Started
 }
 
 // A search that waits for the first answer.
-fn fresh_search(s: Setup) -> Step
-    ensures { λ r. ⌜ r ≡ fresh s ⌝ }
+fn fresh(s: Setup) -> Turn
+    ensures { λ r. ⌜ r ≡ freshOf s ⌝ }
 {
-    stepped(s, Evaluations(0), asks(Waiting::Low, s.options.params.min))
+    turned(s, Evaluations(0), asks(Waiting::Low, s.options.params.min))
 }
 
 // ---- the way of an answer
 
 // One answer, cost f and slope g: the search with it, and what comes next. It is the step that 01's rules take, of
 // any state whose L is no NaN.
-pub fn answer(s: Search, f: f64, g: f64) -> Step
+pub fn answer(s: Search, f: f64, g: f64) -> Turn
     ensures exact { λ r. ⌜ AnswerSaid s f g r ⌝ }
     ensures rules { λ r. ⌜ (isNan (s .setup .level) ≡ false → Follows s f g r) ⌝ }
 {
     let stage = s.stage;
     match stage {
         Stage::Open(waiting) => taken(s.setup, s.evaluations, waiting, f, g),
-        Stage::Over(_) => Step {
+        Stage::Over(_) => Turn {
             search: s,
             outcome: Outcome::Refused(Refusal::AlreadyOver),
         },
@@ -173,14 +93,14 @@ pub fn answer(s: Search, f: f64, g: f64) -> Step
 }
 
 // An answer to a search that is not over. Every finite answer counts, those of a refused iteration too.
-fn taken(s: Setup, n: Evaluations, waiting: Waiting, f: f64, g: f64) -> Step
+fn taken(s: Setup, n: Evaluations, waiting: Waiting, f: f64, g: f64) -> Turn
     ensures { λ r. ⌜ r ≡ takenOf s n waiting f g ⌝ }
 {
     if numbers::both_finite(f, g) {
-        return stepped(s, n.next(), react(s, waiting, f, g));
+        return turned(s, n.next(), react(s, waiting, f, g));
     }
     let outcome = Outcome::Refused(Refusal::SuppliedNotFinite);
-    stepped(s, n, over(keeps(waiting), outcome))
+    turned(s, n, ended(keeps(waiting), outcome))
 }
 
 // A finite answer: the first three fill in the start.
@@ -192,9 +112,9 @@ fn react(s: Setup, waiting: Waiting, f: f64, g: f64) -> Next
         Waiting::Low => asks(Waiting::High(Point { x: p.min, f, g }), p.max),
         Waiting::High(a) => {
             let b = Point { x: p.max, f, g };
-            asks(Waiting::Start(Bracket { a, b }), p.start)
+            asks(Waiting::StartStep(Bracket { a, b }), p.start)
         }
-        Waiting::Start(w) => moves::settled(s, w, Point { x: p.start, f, g }, Iterations(0)),
+        Waiting::StartStep(w) => moves::settled(s, w, Point { x: p.start, f, g }, Iterations(0)),
         Waiting::Running(last, t, asked) => iteration::running(s, last, t, asked, f, g),
     }
 }
@@ -204,7 +124,7 @@ fn react(s: Setup, waiting: Waiting, f: f64, g: f64) -> Next
 // Bracket, best and iterations of the last finished iteration, or of the start; none yet during the first three
 // answers.
 pub fn held(s: Search) -> Kept
-    ensures exact { λ r. ⌜ r ≡ keptIn s ⌝ }
+    ensures exact { λ r. ⌜ r ≡ heldOf s ⌝ }
     ensures rules { λ r. ⌜ keptReport r ≡ reported (meant s) ⌝ }
 {
     let stage = s.stage;
@@ -228,24 +148,24 @@ impl Kept {
 
 // The step at which an answer is awaited.
 pub fn awaited(s: Search) -> Due
-    ensures exact { λ r. ⌜ r ≡ dueIn s ⌝ }
+    ensures exact { λ r. ⌜ r ≡ awaitedOf s ⌝ }
     ensures rules { λ r. ⌜ dueTold r ≡ awaits (meant s) ⌝ }
 {
     let stage = s.stage;
     match stage {
-        Stage::Open(waiting) => Due::Step(step_due(s.setup, waiting)),
-        Stage::Over(_) => Due::Nothing,
+        Stage::Open(waiting) => Due::Awaited(step_due(s.setup, waiting)),
+        Stage::Over(_) => Due::NothingDue,
     }
 }
 
 fn step_due(s: Setup, waiting: Waiting) -> f64
-    ensures { λ r. ⌜ r ≡ stepOf s waiting ⌝ }
+    ensures { λ r. ⌜ r ≡ stepDue s waiting ⌝ }
 {
     let p = s.options.params;
     match waiting {
         Waiting::Low => p.min,
         Waiting::High(_) => p.max,
-        Waiting::Start(_) => p.start,
+        Waiting::StartStep(_) => p.start,
         Waiting::Running(_, t, asked) => step_asked(t, asked),
     }
 }
@@ -261,47 +181,12 @@ fn step_asked(t: Trial, asked: Asked) -> f64
 
 // What is kept while an answer is awaited.
 fn keeps(waiting: Waiting) -> Kept
-    ensures { λ r. ⌜ r ≡ keptOf waiting ⌝ }
+    ensures { λ r. ⌜ r ≡ keepsOf waiting ⌝ }
 {
     match waiting {
         Waiting::Low => Kept::NoneYet,
         Waiting::High(_) => Kept::NoneYet,
-        Waiting::Start(_) => Kept::NoneYet,
+        Waiting::StartStep(_) => Kept::NoneYet,
         Waiting::Running(last, _, _) => Kept::Last(last),
-    }
-}
-
-// The step x is asked.
-fn asks(waiting: Waiting, x: f64) -> Next
-    ensures { λ r. ⌜ r ≡ asking waiting x ⌝ }
-{
-    Next {
-        stage: Stage::Open(waiting),
-        outcome: Outcome::Ask(x),
-    }
-}
-
-// The search is over.
-fn over(kept: Kept, outcome: Outcome) -> Next
-    ensures { λ r. ⌜ r ≡ ending kept outcome ⌝ }
-{
-    Next {
-        stage: Stage::Over(kept),
-        outcome,
-    }
-}
-
-fn stepped(setup: Setup, evaluations: Evaluations, next: Next) -> Step
-    ensures { λ r. ⌜ r ≡ stepTo setup evaluations next ⌝ }
-{
-    let stage = next.stage;
-    let outcome = next.outcome;
-    Step {
-        search: Search {
-            setup,
-            evaluations,
-            stage,
-        },
-        outcome,
     }
 }

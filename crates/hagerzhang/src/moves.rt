@@ -1,16 +1,15 @@
 // The end of the start or of an iteration, and a move: tested and made.
 
-use super::Asked;
-use super::Ends;
-use super::Finished;
-use super::Kept;
-use super::Move;
-use super::Next;
-use super::Rule;
-use super::Trial;
-use super::Waiting;
-use super::asks;
-use super::over;
+use crate::state::Asked;
+use crate::state::Finished;
+use crate::state::Kept;
+use crate::state::Narrowing;
+use crate::state::Next;
+use crate::state::Rule;
+use crate::state::Trial;
+use crate::state::Waiting;
+use crate::state::asks;
+use crate::state::ended;
 use hagerzhang_decisions::bracketing;
 use hagerzhang_decisions::verdicts;
 use hagerzhang_rules::Bracket;
@@ -20,17 +19,27 @@ use hagerzhang_rules::Setup;
 use refusals::Refusal;
 use runs::Iterations;
 use runs::Outcome;
+use runs::Verdict;
 ghost use mathlib.Core.Path.{_≡_};
-ghost use Rattle.hagerzhang.specs.Machine.{tryAt, settledOf, outlookOf, madeOf, testedOf, attemptOf, probeOf, refusedBy};
+ghost use Rattle.hagerzhang.specs.Moves.{triesOf, settledOf, outlookOf, madeOf, testOf, attemptOf, probeOf, refusedOf};
+
+// What is due next: a trial's step, a step of U3 between h and k while so many answers may come, or the end by a
+// verdict or the limit.
+pub(crate) enum Move {
+    Try(Bracket, Trial),
+    Narrow(Trial, Point, f64, u32),
+    Stop(Verdict),
+    Limit,
+}
 
 // (3) The start or an iteration is finished: L3, best, and what is due then.
-pub(crate) fn settled(s: Setup, bracket: Bracket, start: Point, iterations: Iterations) -> Next
-    ensures { λ r. ⌜ r ≡ settledOf s bracket start iterations ⌝ }
+pub(crate) fn settled(s: Setup, bracket: Bracket, c: Point, iterations: Iterations) -> Next
+    ensures { λ r. ⌜ r ≡ settledOf s bracket c iterations ⌝ }
 {
-    let best = verdicts::best(bracket.a, bracket.b, start);
+    let best = verdicts::best(bracket.a, bracket.b, c);
     let last = Finished {
         bracket,
-        start,
+        c,
         best,
         iterations,
     };
@@ -54,7 +63,7 @@ fn outlook(s: Setup, last: Finished) -> Move
 }
 
 pub(crate) fn tries(u: Bracket, rule: Rule, x: f64) -> Move
-    ensures { λ r. ⌜ r ≡ tryAt u rule x ⌝ }
+    ensures { λ r. ⌜ r ≡ triesOf u rule x ⌝ }
 {
     Move::Try(u, Trial { rule, x })
 }
@@ -66,20 +75,20 @@ pub(crate) fn made(theta: f64, last: Finished, m: Move) -> Next
     match test(theta, last.best.x, m) {
         Tested::Try(u, t) => asks(Waiting::Running(last, t, Asked::Update(u)), t.x),
         Tested::Narrow(t, e) => asks(Waiting::Running(last, t, Asked::Between(e)), e.d),
-        Tested::End(outcome) => over(Kept::Last(last), outcome),
+        Tested::End(outcome) => ended(Kept::Last(last), outcome),
     }
 }
 
 // A move that was tested: it is asked, or the search is over.
 enum Tested {
     Try(Bracket, Trial),
-    Narrow(Trial, Ends),
+    Narrow(Trial, Narrowing),
     End(Outcome),
 }
 
 // (4) What is due is tested: 5; 6, 5, 7.
 fn test(theta: f64, best: f64, m: Move) -> Tested
-    ensures { λ r. ⌜ r ≡ testedOf theta best m ⌝ }
+    ensures { λ r. ⌜ r ≡ testOf theta best m ⌝ }
 {
     match m {
         Move::Try(u, t) => attempt(u, t),
@@ -112,13 +121,13 @@ fn probe(theta: f64, t: Trial, h: Point, k: f64, left: u32) -> Tested
     }
     if (h.x < d) & (d < k) {
         let left = left - 1;
-        return Tested::Narrow(t, Ends { h, k, d, left });
+        return Tested::Narrow(t, Narrowing { h, k, d, left });
     }
     refused(Refusal::StepNotBetween)
 }
 
 fn refused(r: Refusal) -> Tested
-    ensures { λ t. ⌜ t ≡ refusedBy r ⌝ }
+    ensures { λ t. ⌜ t ≡ refusedOf r ⌝ }
 {
     Tested::End(Outcome::Refused(r))
 }

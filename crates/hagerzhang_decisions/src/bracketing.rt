@@ -6,7 +6,7 @@ use hagerzhang_rules::Came;
 use hagerzhang_rules::Further;
 use hagerzhang_rules::Point;
 ghost use mathlib.Core.Path.{_≡_};
-ghost use Rattle.hagerzhang_rules.specs.Rules.{middleOf, narrowedOf, secantOf, near, S2, S3, S4, orElse, L2};
+ghost use Rattle.hagerzhang_rules.specs.Rules.{middleOf, narrowedOf, secantOf, isNear, S2, S3, S4, orElse, L2};
 ghost use Rattle.hagerzhang_decisions.specs.Decisions.{updatedOf};
 
 // U0 to U2; U3 goes on from the low end.
@@ -54,7 +54,7 @@ pub fn secant(p: Point, q: Point) -> f64
 }
 
 fn is_near(x: f64, y: f64) -> bool
-    ensures { λ r. ⌜ r ≡ near x y ⌝ }
+    ensures { λ r. ⌜ r ≡ isNear x y ⌝ }
 {
     numbers::abs(x - y) < 2.220446049250313e-16
 }

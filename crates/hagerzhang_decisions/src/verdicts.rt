@@ -5,7 +5,7 @@ use hagerzhang_rules::Point;
 use hagerzhang_rules::Setup;
 use runs::Verdict;
 ghost use mathlib.Core.Path.{_≡_};
-ghost use Rattle.hagerzhang_rules.specs.Rules.{bestOf, wolfeHolds, approximateHolds, judgedOf};
+ghost use Rattle.hagerzhang_rules.specs.Rules.{bestOf, wolfeHolds, approximateHolds, judgeOf};
 
 pub fn best(a: Point, b: Point, c: Point) -> Point
     ensures { λ r. ⌜ r ≡ bestOf a b c ⌝ }
@@ -19,13 +19,13 @@ pub fn best(a: Point, b: Point, c: Point) -> Point
     a
 }
 
-fn wolfe(s: Setup, p: Point) -> bool
+fn wolfe_holds(s: Setup, p: Point) -> bool
     ensures { λ r. ⌜ r ≡ wolfeHolds s p ⌝ }
 {
     (p.f - s.f0 <= (s.options.params.delta * p.x) * s.s0) & (p.g >= s.options.params.sigma * s.s0)
 }
 
-fn approximate(s: Setup, p: Point) -> bool
+fn approximate_holds(s: Setup, p: Point) -> bool
     ensures { λ r. ⌜ r ≡ approximateHolds s p ⌝ }
 {
     ((2.0 * s.options.params.delta - 1.0) * s.s0 >= p.g)
@@ -35,12 +35,12 @@ fn approximate(s: Setup, p: Point) -> bool
 
 // The first verdict that holds of the best.
 pub fn judge(s: Setup, p: Point) -> Judged
-    ensures { λ r. ⌜ r ≡ judgedOf s p ⌝ }
+    ensures { λ r. ⌜ r ≡ judgeOf s p ⌝ }
 {
-    if wolfe(s, p) {
+    if wolfe_holds(s, p) {
         return Judged::Holds(Verdict::Wolfe);
     }
-    if approximate(s, p) {
+    if approximate_holds(s, p) {
         return Judged::Holds(Verdict::Approximate);
     }
     Judged::Fails

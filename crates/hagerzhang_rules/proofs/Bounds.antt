@@ -9,11 +9,11 @@ use native.Mathlib.Nat.{suc-mul}
 use native.Mathlib.Omega.{arith}
 use lib.ListN.{length}
 use lib.Ieee.Scale.{finite}
-use Rattle.runs.specs.Asking.{Search}
-use Rattle.runs.proofs.Ends.{Ends, at-end, at-ask}
+use Rattle.runs.specs.Asking.{Rest}
+use Rattle.runs.proofs.Ends.{EndsWithin, at-end, at-ask}
 use Rattle.hagerzhang_rules.specs.declared.Point.{Point}
 use Rattle.hagerzhang_rules.specs.declared.Setup.{Setup}
-use Rattle.hagerzhang_rules.specs.Rules.{answerFinite, Last, Report, noneYet, last, search}
+use Rattle.hagerzhang_rules.specs.Rules.{answerFinite, Summary, Report, noneYet, last, hagerZhang}
 use Rattle.hagerzhang_rules.proofs.Iterations.{Arrives, starts, begins, ended, goes-on, finishes}
 use Rattle.hagerzhang_rules.proofs.EachIteration.{search-arrives}
 
@@ -24,9 +24,9 @@ allowed M zero k = 0
 allowed M (suc n) noneYet = 3 + n * M
 allowed M (suc n) (last p) = M + n * M
 
-arrives-ends : {s : Setup} {P : Last → List Point → Last → Type 0} {M n : ℕ} {k : Report} {asked : List Point}
-    {r : Search Report} (m : ℕ)
-    → Arrives s P M n k asked r → length asked ≤ M → allowed M n k ≤ m + length asked → Ends answerFinite m r
+arrives-ends : {s : Setup} {P : Summary → List Point → Summary → Type 0} {M n : ℕ} {k : Report} {asked : List Point}
+    {r : Rest Report} (m : ℕ)
+    → Arrives s P M n k asked r → length asked ≤ M → allowed M n k ≤ m + length asked → EndsWithin answerFinite m r
 arrives-ends m (ended e) h few = at-end
 arrives-ends zero (starts room three fx u go) h few = absurd (omega arith)
 arrives-ends (suc m) (starts room three fx u go) h few =
@@ -44,5 +44,5 @@ arrives-ends {M = M} {n = suc (suc n)} m (finishes e i fine f go) h few =
 
 module _ (s : Setup) (fine : finite (s .level) ≡ true) (f-min : finite (s .options .params .min) ≡ true)
     (f-max : finite (s .options .params .max) ≡ true) (f-start : finite (s .options .params .start) ≡ true) where
-  pub search-within : Ends answerFinite (3 + s .options .limit * (3 + 3 * s .options .budget)) (search s)
+  pub search-within : EndsWithin answerFinite (3 + s .options .limit * (3 + 3 * s .options .budget)) (hagerZhang s)
   search-within = arrives-ends _ (search-arrives s fine f-min f-max f-start) (omega arith) (omega arith)

@@ -19,7 +19,7 @@ use Rattle.hagerzhang_rules.specs.declared.Setup.{Setup}
 use Rattle.hagerzhang_rules.specs.declared.Came.{Came}
 use Rattle.hagerzhang_rules.specs.declared.Came.the-variants.{To, On}
 use Rattle.hagerzhang_rules.specs.declared.Judged.the-variants.{Holds, Fails}
-use Rattle.hagerzhang_rules.specs.Rules.{point, answerFinite, updateOf, middleOf, narrowedOf, judgedOf, iteration, Last, Report, noneYet, last}
+use Rattle.hagerzhang_rules.specs.Rules.{point, answerFinite, updateOf, middleOf, narrowedOf, judgeOf, iteration, Summary, Report, noneYet, last}
 
 -- ---- demand 3's three facts, and where a bracket lies
 
@@ -71,7 +71,7 @@ pub data Came-from (w : Bracket) (asked : List Point) (p : Point) : Type 0 where
   asked-now : OneOf p asked → Came-from w asked p
 
 -- what a finished iteration leaves
-pub record Finished (s : Setup) (p : Last) (asked : List Point) (q : Last) : Type 0 where
+pub record Whole (s : Setup) (p : Summary) (asked : List Point) (q : Summary) : Type 0 where
   -- its answers, and no others, lead 01's iteration on the former bracket to the new one
   pub whole : Plays (alone s (last p) (p .bracket)) asked (end (inr (q .bracket)))
   pub low-from : Came-from (p .bracket) asked (q .bracket .a)
@@ -80,10 +80,10 @@ pub record Finished (s : Setup) (p : Last) (asked : List Point) (q : Last) : Typ
   pub few : length asked ≤ 3 + 3 * s .options .budget
 
 -- what one answer brings: the report as it was; the first, with the start; or an iteration finished, and counted
-pub data Moves (P : Last → List Point → Last → Type 0) (asked : List Point) : Report → Report → Type 0 where
-  as-before : {k : Report} → Moves P asked k k
-  first : {q : Last} → q .iterations ≡ 0 → Moves P asked noneYet (last q)
-  one-more : {p q : Last} → q .iterations ≡ p .iterations + 1 → P p asked q → Moves P asked (last p) (last q)
+pub data Brings (P : Summary → List Point → Summary → Type 0) (asked : List Point) : Report → Report → Type 0 where
+  as-before : {k : Report} → Brings P asked k k
+  first : {q : Summary} → q .iterations ≡ 0 → Brings P asked noneYet (last q)
+  finished-one : {p q : Summary} → q .iterations ≡ p .iterations + 1 → P p asked q → Brings P asked (last p) (last q)
 
 -- ---- where an iteration on w stands once these points are asked: at a bracket, or in U3 with its ends
 
@@ -97,64 +97,64 @@ standing s w [] = some (To w)
 standing s w (d ∷ asked) = led s (standing s w asked) d
 
 -- how many answers the U3 run has had
-abbrev pub counts : Option Came → ℕ → ℕ
-counts none n = 0
-counts (some (To u)) n = 0
-counts (some (On h k)) n = suc n
+abbrev pub hadBy : Option Came → ℕ → ℕ
+hadBy none n = 0
+hadBy (some (To u)) n = 0
+hadBy (some (On h k)) n = suc n
 
 unfoldable pub had : Setup → Bracket → List Point → ℕ
 had s w [] = 0
-had s w (d ∷ asked) = counts (standing s w asked) (had s w asked)
+had s w (d ∷ asked) = hadBy (standing s w asked) (had s w asked)
 
 -- U3 stands between h and k, and its next step is d
 pub record InU3 (s : Setup) (w : Bracket) (asked : List Point) (h : Point) (k d : Float) : Type 0 where
   pub stands : standing s w asked ≡ some (On h k)
   pub answered : had s w asked < s .options .budget
-  pub next : d ≡ middleOf (s .options .params .theta) h k
+  pub steps-to : d ≡ middleOf (s .options .params .theta) h k
 
 -- ---- why a step x is asked in an iteration that began with the report p and has asked these points: it is finite;
 -- 01's iteration alone asks it there; and in U3 it is strictly between the ends
 
-pub data Asks (s : Setup) (p : Last) (asked : List Point) (x : Float) : Type 0 where
-  trial : {u : Bracket} {then : Float → Float → Alone} → standing s (p .bracket) asked ≡ some (To u)
+pub data AskedBecause (s : Setup) (p : Summary) (asked : List Point) (x : Float) : Type 0 where
+  as-trial : {u : Bracket} {then : Float → Float → Alone} → standing s (p .bracket) asked ≡ some (To u)
       → Plays (alone s (last p) (p .bracket)) asked (ask (last p) x then)
       → finite x ≡ true
-      → Asks s p asked x
+      → AskedBecause s p asked x
   inside : {h : Point} {k : Float} → InU3 s (p .bracket) asked h k x
       → finite x ≡ true
       → (h .x <ᶠ x && x <ᶠ k) ≡ true
-      → Asks s p asked x
+      → AskedBecause s p asked x
 
 -- ---- why a search ended that keeps this report and has asked these points since
 
-pub data Ends (s : Setup) : Report → List Point → Ending Why → Type 0 where
+pub data EndedBecause (s : Setup) : Report → List Point → Ending Why → Type 0 where
   -- "a stop with its verdict and step": of the best
-  verdict : {p : Last} {v : Verdict} → judgedOf s (p .best) ≡ Holds v
-      → Ends s (last p) [] (stop (verdictWord v) (p .best .x))
+  by-verdict : {p : Summary} {v : Verdict} → judgeOf s (p .best) ≡ Holds v
+      → EndedBecause s (last p) [] (stop (verdictWord v) (p .best .x))
   -- ""limit", with bracket and best of the N-th iteration"
-  at-limit : {p : Last} → judgedOf s (p .best) ≡ Fails → p .iterations ≡ s .options .limit
-      → Ends s (last p) [] (limit (p .best .x))
+  by-limit : {p : Summary} → judgeOf s (p .best) ≡ Fails → p .iterations ≡ s .options .limit
+      → EndedBecause s (last p) [] (limit (p .best .x))
   -- 2: the last answer
   not-finite : {k : Report} {d : Point} {asked : List Point}
-      → answerFinite (d .f) (d .g) ≡ false → Ends s k (d ∷ asked) (refusal (answerNotFinite (d .f) (d .g)))
+      → answerFinite (d .f) (d .g) ≡ false → EndedBecause s k (d ∷ asked) (refusal (answerNotFinite (d .f) (d .g)))
   -- 5: of a trial, which is 01's own there, and in U3
-  trial-not-finite : {p : Last} {asked : List Point} {u : Bracket} {x : Float}
+  trial-not-finite : {p : Summary} {asked : List Point} {u : Bracket} {x : Float}
       → standing s (p .bracket) asked ≡ some (To u)
       → Plays (alone s (last p) (p .bracket)) asked (end (inl (stepNotFinite x)))
       → finite x ≡ false
-      → Ends s (last p) asked (refusal (stepNotFinite x))
-  U3-not-finite : {p : Last} {asked : List Point} {h : Point} {k x : Float}
-      → InU3 s (p .bracket) asked h k x → finite x ≡ false → Ends s (last p) asked (refusal (stepNotFinite x))
+      → EndedBecause s (last p) asked (refusal (stepNotFinite x))
+  U3-not-finite : {p : Summary} {asked : List Point} {h : Point} {k x : Float}
+      → InU3 s (p .bracket) asked h k x → finite x ≡ false → EndedBecause s (last p) asked (refusal (stepNotFinite x))
   -- 6: "one U3 run has had B answers and the last did not end it"
-  spent : {p : Last} {asked : List Point} {h : Point} {k : Float}
+  budget-spent : {p : Summary} {asked : List Point} {h : Point} {k : Float}
       → standing s (p .bracket) asked ≡ some (On h k) → had s (p .bracket) asked ≡ s .options .budget
-      → Ends s (last p) asked (refusal (budgetSpent (h .x) k))
+      → EndedBecause s (last p) asked (refusal (budgetSpent (h .x) k))
   -- 7: "U3's next step is not strictly between its two ends"
-  not-between : {p : Last} {asked : List Point} {h : Point} {k x : Float}
+  not-between : {p : Summary} {asked : List Point} {h : Point} {k x : Float}
       → InU3 s (p .bracket) asked h k x → finite x ≡ true → (h .x <ᶠ x && x <ᶠ k) ≡ false
-      → Ends s (last p) asked (refusal (stepNotBetween (h .x) k x))
+      → EndedBecause s (last p) asked (refusal (stepNotBetween (h .x) k x))
   -- 8
-  already : {k : Report} {asked : List Point} → Ends s k asked (refusal alreadyOver)
+  already : {k : Report} {asked : List Point} → EndedBecause s k asked (refusal alreadyOver)
 
 -- ---- every number that is reported is finite
 

@@ -12,7 +12,7 @@ use lib.Ieee.Scale.{finite}
 use Rattle.floats.specs.Arithmetic.{_⊕_, _⊖_, _⊗_, _⊘_, _<ᶠ_, _≤ᶠ_, _>ᶠ_, _≥ᶠ_, 0ᶠ, 1ᶠ, 2ᶠ}
 use Rattle.numbers.specs.Numbers.{absOf}
 use Rattle.runs.specs.Outcomes.{verdictWord, stop, limit, Why, stepNotFinite, budgetSpent, stepNotBetween, unreachable}
-use Rattle.runs.specs.Asking.{Run, end, Search, over, keeping, question}
+use Rattle.runs.specs.Asking.{Run, end, Rest, endWith, keeping, question}
 use Rattle.runs.specs.declared.Verdict.the-variants.{Wolfe, Approximate}
 use Rattle.hagerzhang_rules.specs.declared.Point.{Point}
 use Rattle.hagerzhang_rules.specs.declared.Bracket.{Bracket}
@@ -67,8 +67,8 @@ secantOf p q = (p .x ⊗ q .g ⊖ q .x ⊗ p .g) ⊘ (q .g ⊖ p .g)
 
 -- ---- "Iteration on (a, b)": w is (a, b), u is (A, Z), cx is c.x, the step of S1
 
-abbrev pub near : Float → Float → Bool
-near x y = absOf (x ⊖ y) <ᶠ EPS
+abbrev pub isNear : Float → Float → Bool
+isNear x y = absOf (x ⊖ y) <ᶠ EPS
 
 -- a further trial, where the test holds
 abbrev pub when : Bool → Float → Further
@@ -80,11 +80,11 @@ orElse Nothing d = d
 
 -- "S2: if |c.x - Z.x| < EPS, e = secant(b, Z)."
 unfoldable pub S2 : Bracket → Float → Bracket → Further
-S2 w cx u = when (near cx (u .b .x)) (secantOf (w .b) (u .b))
+S2 w cx u = when (isNear cx (u .b .x)) (secantOf (w .b) (u .b))
 
 -- "S3: if |c.x - A.x| < EPS, e = secant(a, A), overwriting S2's."
 unfoldable pub S3 : Bracket → Float → Bracket → Further
-S3 w cx u = when (near cx (u .a .x)) (secantOf (w .a) (u .a))
+S3 w cx u = when (isNear cx (u .a .x)) (secantOf (w .a) (u .a))
 
 -- "S4: if either held, ask e and update (A, Z) with it." "In S2 and S3 only the final e is tested for refusal 5."
 abbrev pub S4 : Bracket → Float → Bracket → Further
@@ -120,8 +120,8 @@ approximateHolds s p =
     ((2ᶠ ⊗ s .options .params .delta ⊖ 1ᶠ) ⊗ s .s0 ≥ᶠ p .g) && (p .g ≥ᶠ s .options .params .sigma ⊗ s .s0)
     && (p .f ≤ᶠ s .level)
 
-unfoldable pub judgedOf : Setup → Point → Judged
-judgedOf s p = cond (wolfeHolds s p) (Holds Wolfe) (cond (approximateHolds s p) (Holds Approximate) Fails)
+unfoldable pub judgeOf : Setup → Point → Judged
+judgeOf s p = cond (wolfeHolds s p) (Holds Wolfe) (cond (approximateHolds s p) (Holds Approximate) Fails)
 
 -- ---- the flow. `kept`, of any type K, is what is reported meanwhile; a refusal comes to `refuse` of its reason;
 -- `then` goes on with what was reached. From outside, these rules take s, refuse and kept first:
@@ -182,7 +182,7 @@ module _ {K R : Type 0} (s : Setup) (refuse : Why → R) (kept : K) where
 -- ---- what is reported: "During the first three answers there is no bracket and no best"; then those of the last
 -- finished iteration, or the start
 
-pub record Last : Type 0 where
+pub record Summary : Type 0 where
   pub bracket : Bracket
   pub best : Point
   pub iterations : ℕ
@@ -191,15 +191,15 @@ pub record Last : Type 0 where
 -- answers, by `tallied` of outcomes/specs/Asking.antt
 pub data Report : Type 0 where
   noneYet : Report
-  last : Last → Report
+  last : Summary → Report
 
 abbrev pub iterationsIn : Report → ℕ
 iterationsIn noneYet = 0
 iterationsIn (last p) = p .iterations
 
 -- a verdict stops the search at the best step; with none it goes on
-unfoldable pub decided : Report → Float → Search Report → Judged → Search Report
-decided kept x go (Holds v) = over kept (stop (verdictWord v) x)
+unfoldable pub decided : Report → Float → Rest Report → Judged → Rest Report
+decided kept x go (Holds v) = endWith kept (stop (verdictWord v) x)
 decided kept x go Fails = go
 
 -- "This c is always the start step, never a later trial": `start` is the point there, w the bracket, i the number of
@@ -209,29 +209,29 @@ module _ (s : Setup) where
   reportOf w start i = last (record { bracket = w; best = bestOf (w .a) (w .b) start; iterations = i })
 
   -- "Then best, then verdict."
-  unfoldable pub verdict : Bracket → Point → ℕ → Search Report → Search Report
+  unfoldable pub verdict : Bracket → Point → ℕ → Rest Report → Rest Report
   verdict w start i go =
       let best = bestOf (w .a) (w .b) start in
-      decided (reportOf w start i) (best .x) go (judgedOf s best)
+      decided (reportOf w start i) (best .x) go (judgeOf s best)
 
   -- "After an iteration the verdict is tested first, then the limit; only then is the next step worked out .." n
   -- iterations may still be begun.
-  unfoldable pub rounds : ℕ → Bracket → Point → ℕ → Search Report
+  unfoldable pub rounds : ℕ → Bracket → Point → ℕ → Rest Report
   rounds zero w start i =
       let best = bestOf (w .a) (w .b) start in
-      verdict w start i (over (reportOf w start i) (limit (best .x)))
+      verdict w start i (endWith (reportOf w start i) (limit (best .x)))
   rounds (suc n) w start i =
       let kept = reportOf w start i in
       verdict w start i (iteration s (keeping kept) kept w λ v. rounds n v start (i + 1))
 
-  -- "Start: ask a = min, b = max, c = start step, in that order." Written from its end: `search` asks min and goes on
+  -- "Start: ask a = min, b = max, c = start step, in that order." Written from its end: `hagerZhang` asks min and goes on
   -- with `askHigh`, that asks max and goes on with `askStart`, and that asks the start step and goes on with the
   -- verdict on (a, b). Nothing is reported yet.
-  unfoldable pub askStart : Bracket → Search Report
+  unfoldable pub askStart : Bracket → Rest Report
   askStart w = asking s (keeping noneYet) noneYet (s .options .params .start) λ c. rounds (s .options .limit) w c 0
 
-  unfoldable pub askHigh : Point → Search Report
+  unfoldable pub askHigh : Point → Rest Report
   askHigh a = asking s (keeping noneYet) noneYet (s .options .params .max) λ b. askStart (bracket a b)
 
-  unfoldable pub search : Search Report
-  search = asking s (keeping noneYet) noneYet (s .options .params .min) λ a. askHigh a
+  unfoldable pub hagerZhang : Rest Report
+  hagerZhang = asking s (keeping noneYet) noneYet (s .options .params .min) λ a. askHigh a

@@ -12,8 +12,8 @@ use Rattle.refusals.proofs.Refusals.{Passed, and, passed, value-given}
 use Rattle.hagerzhang_rules.specs.Parameters.{paramsFinite, suppliedFinite, startRows}
 use Rattle.curves.specs.declared.Curve.{Curve}
 use Rattle.curves.specs.Curves.{hasNumber}
-use Rattle.hagerzhang.specs.declared.Step.{Step}
-use Rattle.hagerzhang.specs.Machine.{fresh, startOf}
+use Rattle.hagerzhang.specs.declared.state.Turn.{Turn}
+use Rattle.hagerzhang.specs.Machine.{freshOf, startOf}
 use Rattle.jobs.specs.declared.Job.{Job}
 use Rattle.jobs.specs.Reader.{jobOf}
 use Rattle.jobs.specs.Opening.{curveOf, f0Of, s0Of, setupFor, jobRows, beginsBy, beginOf}
@@ -28,29 +28,29 @@ job-passes j (and two (and three ranges)) =
     and first ranges
 
 -- what a job began
-pub record Begins (bytes : List ℕ) (c : Curve) (t : Step) : Type 0 where
+pub record Begins (bytes : List ℕ) (c : Curve) (t : Turn) : Type 0 where
   pub job : Job
   pub is-job : jobOf bytes ≡ value job
   pub same-curve : curveOf job ≡ c
-  pub same-step : fresh (setupFor job) ≡ t
+  pub same-step : freshOf (setupFor job) ≡ t
   pub passes : Passed (jobRows job)
   pub accepted : Passed (startRows (job .options) (f0Of job) (s0Of job))
   pub started : startOf (job .options) (f0Of job) (s0Of job) ≡ value t
 
-module _ (bytes : List ℕ) (c : Curve) (t : Step) where
+module _ (bytes : List ℕ) (c : Curve) (t : Turn) where
   with-job : (a : Result Job) → jobOf bytes ≡ a → beginsBy a ≡ value (c, t) → Begins bytes c t
   with-job (value j) is h =
-      let p = passed (jobRows j) (curveOf j, fresh (setupFor j)) (c, t) h in
-      let step : fresh (setupFor j) ≡ t = ap (λ (q : Curve × Step). q .1) (p .1) in
+      let p = passed (jobRows j) (curveOf j, freshOf (setupFor j)) (c, t) h in
+      let step : freshOf (setupFor j) ≡ t = ap (λ (q : Curve × Turn). q .1) (p .1) in
       let ok = job-passes j (p .0) in
       record {
         job = j;
         is-job = is;
-        same-curve = ap (λ (q : Curve × Step). q .0) (p .1);
+        same-curve = ap (λ (q : Curve × Turn). q .0) (p .1);
         same-step = step;
         passes = p .0;
         accepted = ok;
-        started = rw (← step) (value-given (startRows (j .options) (f0Of j) (s0Of j)) (fresh (setupFor j)) ok);
+        started = rw (← step) (value-given (startRows (j .options) (f0Of j) (s0Of j)) (freshOf (setupFor j)) ok);
       }
   with-job (refused n) is h = let z : _≡_ {A = ℕ} 0 1 = cc in absurd (omega arith)
 

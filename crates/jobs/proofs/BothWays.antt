@@ -17,7 +17,7 @@ use Rattle.refusals.specs.Results.{Result, value, refused}
 use Rattle.hagerzhang_rules.specs.declared.Options.{Options}
 use Rattle.wire.specs.Wire.{byteAt, pairOf}
 use Rattle.jobs.specs.declared.Job.{Job}
-use Rattle.jobs.specs.Format.{Field, written, sizeOf, Holds, nothing, field, bodyOf, optionsOf, decoded, meansOf}
+use Rattle.jobs.specs.Format.{Field, written, sizeOf, WellFormed, nothing, field, bodyOf, optionsOf, decoded, meansOf}
 use Rattle.jobs.specs.Reader.{begins, found, behind, jobOf}
 
 -- ---- a written field is found, and no other
@@ -49,7 +49,7 @@ module _ (f : Field) (s : List ℕ) where
       pick false b = refl
 
 -- ---- fields with tags above t hold no body of a tag up to t
-absent : {t : ℕ} {fs : List Field} {s : List ℕ} → Holds t fs s → (m : ℕ) → m ≤ t → bodyOf m fs ≡ none
+absent : {t : ℕ} {fs : List Field} {s : List ℕ} → WellFormed t fs s → (m : ℕ) → m ≤ t → bodyOf m fs ≡ none
 unfolding bodyOf
 absent nothing m h = refl
 absent (field {f = f} above known more) m h =
@@ -62,13 +62,13 @@ same-size m k n l e p q = cc
 -- the others
 record Passed (k n : ℕ) (fs : List Field) (s : List ℕ) : Type 0 where
   others : List Field
-  holds : Holds k others (behind k n s)
+  holds : WellFormed k others (behind k n s)
   body : found k n s ≡ bodyOf k fs
   same : (m : ℕ) → k < m → bodyOf m others ≡ bodyOf m fs
 
 record Left (t : ℕ) (all : List Field) (s : List ℕ) : Type 0 where
   fields : List Field
-  holds : Holds t fields s
+  holds : WellFormed t fields s
   same : (m : ℕ) → t < m → bodyOf m fields ≡ bodyOf m all
 
 module _ (t k n : ℕ) (next : k ≡ suc t) (known : sizeOf k ≡ some n) where
@@ -79,7 +79,7 @@ module _ (t k n : ℕ) (next : k ≡ suc t) (known : sizeOf k ≡ some n) where
       record { others = []; holds = rw e nothing; body = rw e; same = λ m h. refl }
 
   module _ (f : Field) (fs : List Field) (s : List ℕ) (above : t < f .tag)
-      (size : sizeOf (f .tag) ≡ some (length (f .body))) (more : Holds (f .tag) fs s) where
+      (size : sizeOf (f .tag) ≡ some (length (f .body))) (more : WellFormed (f .tag) fs s) where
     this-tag : eqb (f .tag) k ≡ true → Passed k n (f ∷ fs) (written f ++ s)
     unfolding bodyOf
     this-tag e =
@@ -91,7 +91,7 @@ module _ (t k n : ℕ) (next : k ≡ suc t) (known : sizeOf k ≡ some n) where
         ap₂ (λ (i j : ℕ). found i j (written f ++ s)) (sym p) (sym q) ∙ body-written f s in
         record {
           others = fs;
-          holds = rw b (subst (λ (i : ℕ). Holds i fs s) p more);
+          holds = rw b (subst (λ (i : ℕ). WellFormed i fs s) p more);
           body = rw e w;
           same = λ m h. rw (ne-eqb (f .tag) m (λ (g : f .tag ≡ m). omega arith));
         }
@@ -109,7 +109,7 @@ module _ (t k n : ℕ) (next : k ≡ suc t) (known : sizeOf k ≡ some n) where
           same = λ m h. refl;
         }
 
-  passed : (fs : List Field) (s : List ℕ) → Holds t fs s → Passed k n fs s
+  passed : (fs : List Field) (s : List ℕ) → WellFormed t fs s → Passed k n fs s
   passed [] [] nothing = at-end
   passed (f ∷ fs) s (field {s = s'} above size more) = by-tag (eqb (f .tag) k) refl
     where
@@ -141,12 +141,12 @@ unknown tag n h e =
     let o : _≡_ {A = ℕ} 0 1 = cc in
     omega arith
 
-none-left : (fs : List Field) (s : List ℕ) → Holds 6 fs s → length s ≡ 0
+none-left : (fs : List Field) (s : List ℕ) → WellFormed 6 fs s → length s ≡ 0
 none-left [] [] nothing = refl
 none-left (f ∷ fs) s (field above size more) = absurd (unknown (f .tag) (length (f .body)) above size)
 
 -- bytes that hold fields in 01's form are read as what these say
-pub format-is-read : (fs : List Field) (s : List ℕ) → Holds 0 fs s → jobOf s ≡ meansOf fs
+pub format-is-read : (fs : List Field) (s : List ℕ) → WellFormed 0 fs s → jobOf s ≡ meansOf fs
 unfolding sizeOf
 format-is-read fs s h =
     let p1 = step 0 1 1 refl refl fs s (record { fields = fs; holds = h; same = λ m l. refl }) in
@@ -160,9 +160,9 @@ format-is-read fs s h =
 -- ---- backwards: what is behind a tag holds fields, and so do the bytes before it
 pub record Formed (t : ℕ) (s : List ℕ) : Type 0 where
   pub fields : List Field
-  pub holds : Holds t fields s
+  pub holds : WellFormed t fields s
 
-weaker : {k : ℕ} {fs : List Field} {s : List ℕ} (t : ℕ) → t ≤ k → Holds k fs s → Holds t fs s
+weaker : {k : ℕ} {fs : List Field} {s : List ℕ} (t : ℕ) → t ≤ k → WellFormed k fs s → WellFormed t fs s
 weaker t l nothing = nothing
 weaker t l (field {t = k} {f = f} above size more) = let a : t < f .tag = omega arith in field a size more
 
@@ -212,12 +212,12 @@ back t k n above known small hi lo s m = by-test (begins k n s) refl
         let long = g .long in
         let len : length (take n (drop 3 s)) ≡ n = length-take-le n (drop 3 s) (simp length-drop (omega arith)) in
         let size : sizeOf k ≡ some (length (take n (drop 3 s))) = known ∙ ap some (sym len) in
-        let rest : Holds k (m .fields) (drop (3 + n) s) = rw e at (m .holds) in
-        let whole : Holds t (first k n s ∷ m .fields) (written (first k n s) ++ drop (3 + n) s) =
+        let rest : WellFormed k (m .fields) (drop (3 + n) s) = rw e at (m .holds) in
+        let whole : WellFormed t (first k n s ∷ m .fields) (written (first k n s) ++ drop (3 + n) s) =
         field above size rest in
         record {
           fields = first k n s ∷ m .fields;
-          holds = subst (λ (l : List ℕ). Holds t (first k n s ∷ m .fields) l) (sym (split k n s small hi lo g)) whole;
+          holds = subst (λ (l : List ℕ). WellFormed t (first k n s ∷ m .fields) l) (sym (split k n s small hi lo g)) whole;
         }
     by-test false e = record { fields = m .fields; holds = weaker t (omega arith) (rw e at (m .holds)) }
 
@@ -251,7 +251,7 @@ formed s h =
 -- fields in 01's form that say the job j
 pub record Encodes (s : List ℕ) (j : Job) : Type 0 where
   pub fields : List Field
-  pub holds : Holds 0 fields s
+  pub holds : WellFormed 0 fields s
   pub means : meansOf fields ≡ value j
 
 not-refused : (b : Bool) (a : Result Job) (j : Job) → cond b a (refused 9) ≡ value j → b ≡ true
@@ -264,7 +264,7 @@ nothing-left s j e = eqb-true (length (left s)) 0 (not-refused (eqb (length (lef
 -- ---- 01's row 9, "the job is malformed", by the format: a job is what the fields say that the bytes hold
 
 -- bytes that hold such fields are read as it
-pub job-read : (s : List ℕ) (fs : List Field) (j : Job) → Holds 0 fs s → meansOf fs ≡ value j → jobOf s ≡ value j
+pub job-read : (s : List ℕ) (fs : List Field) (j : Job) → WellFormed 0 fs s → meansOf fs ≡ value j → jobOf s ≡ value j
 job-read s fs j h means = format-is-read fs s h ∙ means
 
 -- whatever is read as a job is such bytes
@@ -287,7 +287,7 @@ refused-otherwise s never =
     (λ (j : Job) (e : jobOf s ≡ value j). never j (read-is-format s j e))
 
 -- the same, of the fields themselves: "wrong length, unknown tag, cut field or missing tag 1 is refusal 9"
-pub no-job-refused : (s : List ℕ) → ((fs : List Field) (j : Job) → Holds 0 fs s → meansOf fs ≡ value j → ⊥)
+pub no-job-refused : (s : List ℕ) → ((fs : List Field) (j : Job) → WellFormed 0 fs s → meansOf fs ≡ value j → ⊥)
     → jobOf s ≡ refused 9
 no-job-refused s never = refused-otherwise s (λ j e. never (e .fields) j (e .holds) (e .means))
 

@@ -11,12 +11,12 @@ use Rattle.refusals.specs.Refusals.{numberOf}
 use Rattle.refusals.specs.declared.Refusal.{Refusal}
 use Rattle.refusals.specs.declared.Refusal.the-variants.{SuppliedNotFinite, OutOfRange, ResultNotFinite, StepNotFinite, BudgetSpent, StepNotBetween, AlreadyOver}
 use Rattle.curves.specs.declared.Curve.{Curve}
-use Rattle.hagerzhang.specs.declared.Step.{Step}
+use Rattle.hagerzhang.specs.declared.state.Turn.{Turn}
 use Rattle.jobs.specs.declared.Opened.{Opened}
 use Rattle.jobs.specs.declared.Opened.the-variants.{Begun, NoSearch, Unreadable}
 use Rattle.jobs.specs.Opening.{openedTold, BeginSaid}
 
-opens : Result (Curve × Step) → Opened
+opens : Result (Curve × Turn) → Opened
 opens (value p) = Begun (p .0) (p .1)
 opens (refused n) = cond (eqb n 9) Unreadable (NoSearch (withNumber n))
 

@@ -11,18 +11,18 @@ use Rattle.refusals.proofs.Refusals.{Passed, and, all, passed, alike}
 use Rattle.hagerzhang_rules.specs.Parameters.{paramsFinite, rangeRows}
 use Rattle.curves.specs.declared.Curve.{Curve}
 use Rattle.curves.specs.Curves.{hasNumber, numberedAt, curveRows, numberedOf}
-use Rattle.hagerzhang.specs.declared.Step.{Step}
-use Rattle.hagerzhang.specs.Machine.{fresh}
+use Rattle.hagerzhang.specs.declared.state.Turn.{Turn}
+use Rattle.hagerzhang.specs.Machine.{freshOf}
 use Rattle.jobs.specs.declared.Job.{Job}
 use Rattle.jobs.specs.Opening.{curveOf, f0Of, setupFor, beginsBy, overCurve}
 use Rattle.jobs.proofs.AtZero.{f0-finite, s0-finite}
 
 -- what a start comes to, with the curve beside it
-unfoldable pub on : Curve → Result Step → Result (Curve × Step)
+unfoldable pub on : Curve → Result Turn → Result (Curve × Turn)
 on c (value t) = value (c, t)
 on c (refused n) = refused n
 
-pub on-rows : (c : Curve) (rows : List Row) (t : Step) → on c (refuse rows else t) ≡ (refuse rows else (c, t))
+pub on-rows : (c : Curve) (rows : List Row) (t : Turn) → on c (refuse rows else t) ≡ (refuse rows else (c, t))
 unfolding on
 on-rows c rows t = alike (on c) (λ r. r) (λ n. refl) t (c, t) refl rows
 
@@ -52,5 +52,5 @@ module _ (j : Job) where
     pub unknown-curve : (n : ℕ) → refused n ≡ numberedOf (j .curve) → refused n ≡ beginsBy (value j)
     unknown-curve n e =
         let rows = rangeRows (j .options) (f0Of j) in
-        let begun : Curve × Step = (curveOf j, fresh (setupFor j)) in
+        let begun : Curve × Turn = (curveOf j, freshOf (setupFor j)) in
         rw fine (one-row n 3 (not (hasNumber (j .curve))) (numberedAt (j .curve)) rows begun e)

@@ -35,10 +35,10 @@ sizeOf tag =
 
 -- "Tags ascend strictly; wrong length, unknown tag, cut field .. is refusal 9": the bytes are these whole fields, with
 -- tags above t
-pub data Holds : ℕ → List Field → List ℕ → Type 0 where
-  nothing : {t : ℕ} → Holds t [] []
+pub data WellFormed : ℕ → List Field → List ℕ → Type 0 where
+  nothing : {t : ℕ} → WellFormed t [] []
   field : {t : ℕ} {f : Field} {fs : List Field} {s : List ℕ} → t < f .tag → sizeOf (f .tag) ≡ some (length (f .body))
-      → Holds (f .tag) fs s → Holds t (f ∷ fs) (written f ++ s)
+      → WellFormed (f .tag) fs s → WellFormed t (f ∷ fs) (written f ++ s)
 
 -- the body of the field with a tag, where there is one
 unfoldable pub bodyOf : ℕ → List Field → Option (List ℕ)

@@ -12,8 +12,8 @@ use Rattle.hagerzhang_rules.specs.declared.Setup.{Setup}
 use Rattle.hagerzhang_rules.specs.Parameters.{paramsFinite, rangeRows, startRows, setupOf}
 use Rattle.curves.specs.declared.Curve.{Curve}
 use Rattle.curves.specs.Curves.{hasNumber, numberedAt, valueOf, slopeOf}
-use Rattle.hagerzhang.specs.declared.Step.{Step}
-use Rattle.hagerzhang.specs.Machine.{fresh}
+use Rattle.hagerzhang.specs.declared.state.Turn.{Turn}
+use Rattle.hagerzhang.specs.Machine.{freshOf}
 use Rattle.jobs.specs.declared.Job.{Job}
 use Rattle.jobs.specs.Reader.{jobOf}
 use Rattle.jobs.specs.declared.Opened.{Opened}
@@ -39,25 +39,25 @@ abbrev pub jobRows : Job → List Row
 jobRows j =
     (2, not (paramsFinite (j .options .params))) ∷ (3, not (hasNumber (j .curve))) ∷ rangeRows (j .options) (f0Of j)
 
--- 9, "the job is malformed", comes before all these. The search that has asked its first step, a = min, is `fresh`
-abbrev pub beginsBy : Result Job → Result (Curve × Step)
-beginsBy (value j) = refuse (jobRows j) else (curveOf j, fresh (setupFor j))
+-- 9, "the job is malformed", comes before all these. The search that has asked its first step, a = min, is `freshOf`
+abbrev pub beginsBy : Result Job → Result (Curve × Turn)
+beginsBy (value j) = refuse (jobRows j) else (curveOf j, freshOf (setupFor j))
 beginsBy (refused n) = refused n
 
 -- the curve and the search that a job begins, for any bytes
-abbrev pub beginOf : List ℕ → Result (Curve × Step)
+abbrev pub beginOf : List ℕ → Result (Curve × Turn)
 beginOf bytes = beginsBy (jobOf bytes)
 
 -- a start over a curve, by its own rows: what `search_over` comes to. Where the job's first two rows do not hold, it is
 -- what the job begins (proofs/Refusals.antt)
-abbrev pub overCurve : Curve → Options → Result (Curve × Step)
+abbrev pub overCurve : Curve → Options → Result (Curve × Turn)
 overCurve c o =
     let f0 = valueOf c 0ᶠ in
     let s0 = slopeOf c 0ᶠ in
-    refuse (startRows o f0 s0) else (c, fresh (setupOf o f0 s0))
+    refuse (startRows o f0 s0) else (c, freshOf (setupOf o f0 s0))
 
 -- what each case of the answer tells
-abbrev pub openedTold : Opened → Result (Curve × Step)
+abbrev pub openedTold : Opened → Result (Curve × Turn)
 openedTold (Begun c t) = value (c, t)
 openedTold (NoSearch k) = refused (numberOf k)
 openedTold Unreadable = refused 9

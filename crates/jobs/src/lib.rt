@@ -4,7 +4,7 @@
 use curves::Curve;
 use curves::Known;
 use hagerzhang::Started;
-use hagerzhang::Step;
+use hagerzhang::Turn;
 use hagerzhang_decisions::parameters;
 use hagerzhang_rules::Options;
 use hagerzhang_rules::Params;
@@ -149,7 +149,7 @@ pub fn read(job: &[u8]) -> Reading
 
 // What a job begins: a search over a curve, which has asked its first step; or none.
 pub enum Opened {
-    Begun(Curve, Step),
+    Begun(Curve, Turn),
     // 2, 3 or 4
     NoSearch(Refusal),
     // 9

@@ -6,8 +6,8 @@ use Rattle.text.specs.Text.{bytes}
 use Rattle.text.specs.Figures.{floatsLine, numberLine}
 
 -- docs/FORMATS.md: `CASE k`, "k counts from 1"
-abbrev pub caseLine : ℕ → List ℕ
-caseLine k = numberLine (bytes "CASE ") k
+abbrev pub headLine : ℕ → List ℕ
+headLine k = numberLine (bytes "CASE ") k
 
 -- `MALFORMED at b`: "b is the byte, counted from 0, where that field began"
 abbrev pub malformedLine : ℕ → List ℕ
@@ -18,5 +18,5 @@ abbrev pub valueLine : Float → List ℕ
 valueLine x = floatsLine (bytes "VALUE") (x ∷ [])
 
 -- a point: "`OUT` and the buffer's numbers, each behind a blank"
-abbrev pub outLine : List Float → List ℕ
-outLine xs = floatsLine (bytes "OUT") xs
+abbrev pub bufferLine : List Float → List ℕ
+bufferLine xs = floatsLine (bytes "OUT") xs

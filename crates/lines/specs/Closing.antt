@@ -6,7 +6,7 @@ use Rattle.text.specs.Text.{bytes}
 use Rattle.text.specs.Figures.{floatsLine}
 use Rattle.lines.specs.Lines.{countsText}
 use Rattle.hagerzhang_rules.specs.declared.Point.{Point}
-use Rattle.hagerzhang_rules.specs.Rules.{Last, Report, noneYet, last}
+use Rattle.hagerzhang_rules.specs.Rules.{Summary, Report, noneYet, last}
 
 abbrev pub pointFloats : Point → List Float
 pointFloats p = p .x ∷ p .f ∷ p .g ∷ []
@@ -16,7 +16,7 @@ abbrev pub noneText : ℕ → ℕ → List ℕ
 noneText e i = bytes "BRACKET none\nBEST none\nCOUNTS" ++ countsText e i
 
 -- `BRACKET a.x a.f a.g b.x b.f b.g`, `BEST x f g`, and the counts
-abbrev pub lastText : Last → ℕ → List ℕ
+abbrev pub lastText : Summary → ℕ → List ℕ
 lastText p e =
     floatsLine (bytes "BRACKET") (pointFloats (p .bracket .a) ++ pointFloats (p .bracket .b))
     ++ floatsLine (bytes "BEST") (pointFloats (p .best))

@@ -27,8 +27,8 @@ abbrev pub refusedLine : ℕ → List ℕ
 refusedLine n = numberLine (bytes "REFUSED ") n
 
 -- the line for what a search tells, with its evaluations e and its iterations i
-abbrev pub lineOf : Told → ℕ → ℕ → List ℕ
-lineOf (asks x) e i = floatsLine (bytes "ASK") (x ∷ [])
-lineOf (ends (stop w x)) e i = stopLine w x e i
-lineOf (ends (limit x)) e i = limitLine x e i
-lineOf (ends (refusal n)) e i = refusedLine n
+abbrev pub outcomeLine : Told → ℕ → ℕ → List ℕ
+outcomeLine (asks x) e i = floatsLine (bytes "ASK") (x ∷ [])
+outcomeLine (ends (stop w x)) e i = stopLine w x e i
+outcomeLine (ends (limit x)) e i = limitLine x e i
+outcomeLine (ends (refusal n)) e i = refusedLine n

@@ -12,8 +12,8 @@ ghost use mathlib.Core.List.{_++_};
 ghost use Rattle.runs.specs.Outcomes.{verdictWord, told};
 ghost use Rattle.text.specs.Text.{Writes, bytes};
 ghost use Rattle.hagerzhang.specs.Meaning.{lastOf, report};
-ghost use Rattle.lines.specs.Lines.{verdictText, countsText, stopLine, limitLine, refusedLine, lineOf};
-ghost use Rattle.lines.specs.CaseLines.{caseLine, malformedLine, valueLine, outLine};
+ghost use Rattle.lines.specs.Lines.{verdictText, countsText, stopLine, limitLine, refusedLine, outcomeLine};
+ghost use Rattle.lines.specs.CaseLines.{headLine, malformedLine, valueLine, bufferLine};
 ghost use Rattle.lines.specs.Closing.{noneText, closingText};
 
 // ---- an outcome
@@ -62,7 +62,7 @@ fn limit(out: &mut [u8], at: usize, x: f64, e: Evaluations, i: Iterations) -> us
 
 // The line of an outcome, with the search's evaluations and iterations.
 pub fn outcome(out: &mut [u8], at: usize, o: Outcome, e: Evaluations, i: Iterations) -> usize
-    ensures { λ r. ⌜ Writes (now (out .entry)) at (lineOf (told o) (e .0) (i .0)) (now (out .exit)) r ⌝ }
+    ensures { λ r. ⌜ Writes (now (out .entry)) at (outcomeLine (told o) (e .0) (i .0)) (now (out .exit)) r ⌝ }
 {
     match o {
         Outcome::Ask(x) => text::floats_line(out, at, b"ASK", &[x]),
@@ -76,7 +76,7 @@ pub fn outcome(out: &mut [u8], at: usize, o: Outcome, e: Evaluations, i: Iterati
 
 // The head of case k.
 pub fn head(out: &mut [u8], at: usize, k: u64) -> usize
-    ensures { λ r. ⌜ Writes (now (out .entry)) at (caseLine k) (now (out .exit)) r ⌝ }
+    ensures { λ r. ⌜ Writes (now (out .entry)) at (headLine k) (now (out .exit)) r ⌝ }
 {
     text::number_line(out, at, b"CASE ", k)
 }
@@ -97,7 +97,7 @@ pub fn value(out: &mut [u8], at: usize, x: f64) -> usize
 
 // A buffer's numbers.
 pub fn buffer(out: &mut [u8], at: usize, xs: &[f64]) -> usize
-    ensures { λ r. ⌜ Writes (now (out .entry)) at (outLine (now (xs .entry))) (now (out .exit)) r ⌝ }
+    ensures { λ r. ⌜ Writes (now (out .entry)) at (bufferLine (now (xs .entry))) (now (out .exit)) r ⌝ }
 {
     text::floats_line(out, at, b"OUT", xs)
 }

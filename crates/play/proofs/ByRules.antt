@@ -9,9 +9,9 @@ use native.Mathlib.Omega.{arith}
 use lib.ListN.{length}
 use lib.Ieee.{Float, isNan}
 use Rattle.runs.specs.Outcomes.{asks, ends, numbered, told}
-use Rattle.runs.specs.Asking.{Search as Rest, Over as Ended, ask, end, respond, shown, reported, onceTold}
+use Rattle.runs.specs.Asking.{Rest, Ended, ask, end, respond, shown, reported, onceTold}
 use Rattle.runs.proofs.Machines.{adds-one}
-use Rattle.runs.proofs.Ends.{Ends, at-ask}
+use Rattle.runs.proofs.Ends.{EndsWithin, at-ask}
 use Rattle.runs.proofs.Determined.{told-determined}
 use Rattle.runs.specs.declared.Outcome.{Outcome}
 use Rattle.runs.specs.declared.Outcome.the-variants.{Ask, Stop, Limit, Refused}
@@ -19,18 +19,18 @@ use Rattle.hagerzhang_rules.specs.declared.Setup.{Setup}
 use Rattle.hagerzhang_rules.specs.Rules.{answerFinite, Report, iterationsIn}
 use Rattle.curves.specs.declared.Curve.{Curve}
 use Rattle.curves.specs.Curves.{valueOf, slopeOf}
-use Rattle.hagerzhang.specs.declared.Stage.{Stage}
-use Rattle.hagerzhang.specs.declared.Stage.the-variants.{Open, Over as OverStage}
-use Rattle.hagerzhang.specs.declared.Search.{Search}
-use Rattle.hagerzhang.specs.declared.Step.{Step}
+use Rattle.hagerzhang.specs.declared.state.Stage.{Stage}
+use Rattle.hagerzhang.specs.declared.state.Stage.the-variants.{Open, Over as OverStage}
+use Rattle.hagerzhang.specs.declared.state.Search.{Search}
+use Rattle.hagerzhang.specs.declared.state.Turn.{Turn}
 use Rattle.hagerzhang.specs.Machine.{answerBy, answerOf}
 use Rattle.hagerzhang.specs.Meaning.{report, meaning, meant}
 use Rattle.hagerzhang.proofs.Answering.{setup-kept, one-more-if-finite, reports}
 use Rattle.hagerzhang.proofs.Bridge.{follows}
 use Rattle.play.specs.declared.Played.{Played}
-use Rattle.play.specs.declared.Played.the-variants.{On, Over}
+use Rattle.play.specs.declared.Played.the-variants.{Pending, Done}
 use Rattle.play.specs.Telling.{Said, telling, saidLine, textOf}
-use Rattle.play.specs.Playing.{saidOf, answeredBy, nextOf, saidIn, leftAfter, chunks, leftAfterChunks}
+use Rattle.play.specs.Playing.{saidOf, answeredBy, answeredOf, saidIn, leftAfter, chunks, leftAfterChunks}
 
 -- ---- what an answer to a search that asks counts
 counts-on : (b : Search) (f g : Float) (stage : Stage) (k : Report) (x : Float) (then : Float → Float → Rest Report)
@@ -60,38 +60,38 @@ pub record Fits (s : Setup) : Type 0 where
 
 -- ---- a step stands where a run of the rules stands that has made e evaluations and ends within m answers
 module _ (s : Setup) (fits : Fits s) (c : Curve) where
-  pub record Stands (e m : ℕ) (t : Step) (r : Rest Report) : Type 0 where
+  pub record Stands (e m : ℕ) (t : Turn) (r : Rest Report) : Type 0 where
     pub same-setup : t .search .setup ≡ s
     pub tells : told (t .outcome) ≡ shown r
     pub leaves : meant (t .search) ≡ onceTold r
     pub counts : t .search .evaluations .0 ≡ e
-    pub within : Ends answerFinite m r
+    pub within : EndsWithin answerFinite m r
     pub few : e + m < 4294967295
 
   -- what a play has still to tell
   pub data Matches : Played → List Said → Type 0 where
-    at-over : Matches Over []
-    at-step : {e m : ℕ} {t : Step} {r : Rest Report} → Stands e m t r → Matches (On t) (telling c e r)
+    at-over : Matches Done []
+    at-step : {e m : ℕ} {t : Turn} {r : Rest Report} → Stands e m t r → Matches (Pending t) (telling c e r)
 
   -- one turn tells the first of it, and leaves the others
-  record Turn (t : Step) (l : List Said) : Type 0 where
+  record Told-on (t : Turn) (l : List Said) : Type 0 where
     others : List Said
     first : l ≡ saidOf t ∷ others
-    matches : Matches (nextOf c t) others
+    matches : Matches (answeredOf c t) others
 
   reported-by : (b : Search) (r : Rest Report) → meant b ≡ r → iterationsIn (report b) ≡ iterationsIn (reported r)
   reported-by b r e = ap iterationsIn (sym (reports (b .setup) (b .stage)) ∙ ap reported e)
 
-  module _ (e m : ℕ) (t : Step) where
+  module _ (e m : ℕ) (t : Turn) where
     module _ (k : Report) (x : Float) (then : Float → Float → Rest Report) (at : Stands e (suc m) t (ask k x then))
-        (more : (f g : Float) → Ends answerFinite m (then f g)) where
+        (more : (f g : Float) → EndsWithin answerFinite m (then f g)) where
       abbrev f : Float
       f = valueOf c x
 
       abbrev g : Float
       g = slopeOf c x
 
-      abbrev t' : Step
+      abbrev t' : Turn
       t' = answerOf (t .search) f g
 
       is-run : meant (t .search) ≡ ask k x then
@@ -131,7 +131,7 @@ module _ (s : Setup) (fits : Fits s) (c : Curve) where
             few = at-most-one (answerFinite f g);
           }
 
-      goes-on : nextOf c t ≡ On t'
+      goes-on : answeredOf c t ≡ Pending t'
       unfolding answeredBy
       goes-on = rw asked
 
@@ -139,7 +139,7 @@ module _ (s : Setup) (fits : Fits s) (c : Curve) where
       unfolding reported
       says-so = rw (asked, at .counts, reported-by (t .search) (ask k x then) is-run)
 
-      asks-turn : Turn t (telling c e (ask k x then))
+      asks-turn : Told-on t (telling c e (ask k x then))
       unfolding telling
       asks-turn = record {
         others = telling c e' (then f g);
@@ -148,7 +148,7 @@ module _ (s : Setup) (fits : Fits s) (c : Curve) where
       }
 
     module _ (o : Ended Report) (at : Stands e m t (end o)) where
-      stops-at : (q : Outcome) → told q ≡ ends (numbered (o .by)) → answeredBy c (t .search) q ≡ Over
+      stops-at : (q : Outcome) → told q ≡ ends (numbered (o .by)) → answeredBy c (t .search) q ≡ Done
       unfolding answeredBy
       stops-at (Ask x) h = let z : _≡_ {A = ℕ} 0 1 = cc in absurd (omega arith)
       stops-at (Stop v x) h = refl
@@ -167,7 +167,7 @@ module _ (s : Setup) (fits : Fits s) (c : Curve) where
           ≡ saidOf t
       ends-so = rw (is-told, at .counts, keeps-report)
 
-      end-turn : Turn t (telling c e (end o))
+      end-turn : Told-on t (telling c e (end o))
       unfolding telling
       end-turn = record {
         others = [];
@@ -175,11 +175,11 @@ module _ (s : Setup) (fits : Fits s) (c : Curve) where
         matches = subst (λ (p : Played). Matches p []) (sym (stops-at (t .outcome) is-told)) at-over;
       }
 
-  turn : (e m : ℕ) (t : Step) (r : Rest Report) → Ends answerFinite m r → Stands e m t r → Turn t (telling c e r)
+  turn : (e m : ℕ) (t : Turn) (r : Rest Report) → EndsWithin answerFinite m r → Stands e m t r → Told-on t (telling c e r)
   turn e m t (end o) w at = end-turn e m t o at
   turn e (suc m) t (ask k x then) (at-ask only more) at = asks-turn e m t k x then at more
 
-  turn-of : (t : Step) (l : List Said) → Matches (On t) l → Turn t l
+  turn-of : (t : Turn) (l : List Said) → Matches (Pending t) l → Told-on t l
   turn-of t l (at-step {e} {m} {r = r} at) = turn e m t r (at .within) at
 
   -- n turns tell the first n outcomes at most, and leave the others
@@ -191,36 +191,36 @@ module _ (s : Setup) (fits : Fits s) (c : Curve) where
   pub plays : (n : ℕ) (p : Played) (l : List Said) → Matches p l → Goes n p l
   unfolding saidIn leftAfter
   plays zero p l h = record { others = l; split = refl; matches = h }
-  plays (suc n) Over [] at-over = record { others = []; split = refl; matches = at-over }
-  plays (suc n) (On t) l h =
+  plays (suc n) Done [] at-over = record { others = []; split = refl; matches = at-over }
+  plays (suc n) (Pending t) l h =
       let z = turn-of t l h in
-      let more = plays n (nextOf c t) (z .others) (z .matches) in
+      let more = plays n (answeredOf c t) (z .others) (z .matches) in
       record {
         others = more .others;
         split = z .first ∙ ap (λ (a : List Said). saidOf t ∷ a) (more .split);
         matches = more .matches;
       }
 
-  nothing-left : (p : Played) (l : List Said) → Matches p l → p ≡ Over → l ≡ []
-  nothing-left Over [] at-over e = refl
-  nothing-left (On t) l h e = let z : _≡_ {A = ℕ} 0 1 = cc in absurd (omega arith)
+  nothing-left : (p : Played) (l : List Said) → Matches p l → p ≡ Done → l ≡ []
+  nothing-left Done [] at-over e = refl
+  nothing-left (Pending t) l h e = let z : _≡_ {A = ℕ} 0 1 = cc in absurd (omega arith)
 
   -- it is over after as many turns as there is to tell
-  pub over-in-time : (n : ℕ) (p : Played) (l : List Said) → Matches p l → length l ≤ n → leftAfter n c p ≡ Over
+  pub over-in-time : (n : ℕ) (p : Played) (l : List Said) → Matches p l → length l ≤ n → leftAfter n c p ≡ Done
   unfolding leftAfter
-  over-in-time zero Over [] at-over h = refl
-  over-in-time zero (On t) l m h =
+  over-in-time zero Done [] at-over h = refl
+  over-in-time zero (Pending t) l m h =
       let z = turn-of t l m in
       let k : length l ≡ suc (length (z .others)) = ap length (z .first) in
       absurd (omega arith)
-  over-in-time (suc n) Over [] at-over h = refl
-  over-in-time (suc n) (On t) l m h =
+  over-in-time (suc n) Done [] at-over h = refl
+  over-in-time (suc n) (Pending t) l m h =
       let z = turn-of t l m in
       let k : length l ≡ suc (length (z .others)) = ap length (z .first) in
-      over-in-time n (nextOf c t) (z .others) (z .matches) (omega arith)
+      over-in-time n (answeredOf c t) (z .others) (z .matches) (omega arith)
 
   -- chunk after chunk: once the play is over, they are the whole text
-  pub chunks-told : (n k : ℕ) (p : Played) (l : List Said) → Matches p l → leftAfterChunks c n k p ≡ Over
+  pub chunks-told : (n k : ℕ) (p : Played) (l : List Said) → Matches p l → leftAfterChunks c n k p ≡ Done
       → chunks c n k p ≡ textOf l
   unfolding chunks leftAfterChunks
   chunks-told n zero p l h e = sym (ap textOf (nothing-left p l h e) ∙ no-text)

@@ -6,16 +6,16 @@ use Prim.Native.Nat.{ℕ, zero, suc, _+_, _<_}
 use native.Mathlib.Omega.{arith}
 use lib.ListN.{length, length-append}
 use Rattle.refusals.specs.Results.{value}
-use Rattle.runs.specs.Asking.{Search as Rest, ask, end, onceTold}
+use Rattle.runs.specs.Asking.{Rest, ask, end, onceTold}
 use Rattle.hagerzhang_rules.specs.declared.Setup.{Setup}
 use Rattle.hagerzhang_rules.specs.Rules.{Report}
 use Rattle.curves.specs.declared.Curve.{Curve}
-use Rattle.hagerzhang.specs.declared.Step.{Step}
+use Rattle.hagerzhang.specs.declared.state.Turn.{Turn}
 use Rattle.hagerzhang.specs.Meaning.{meant}
 use Rattle.jobs.specs.Opening.{setupFor, beginOf}
 use Rattle.jobs.proofs.Begins.{begun}
 use Rattle.play.specs.declared.Played.{Played}
-use Rattle.play.specs.declared.Played.the-variants.{On, Over}
+use Rattle.play.specs.declared.Played.the-variants.{Pending, Done}
 use Rattle.play.specs.Telling.{Said, telling}
 use Rattle.play.specs.Playing.{saidIn, leftAfter}
 use Rattle.play.proofs.ByRules.{Fits, Matches, at-over, at-step, plays}
@@ -23,8 +23,8 @@ use Rattle.play.proofs.Output.{begun-fits, begun-plays, toldBy}
 
 -- how many outcomes there are to tell
 pub toTell : Curve → Played → ℕ
-toTell c Over = 0
-toTell c (On t) = length (telling c 0 (meant (t .search)))
+toTell c Done = 0
+toTell c (Pending t) = length (telling c 0 (meant (t .search)))
 
 -- a play that the rules match
 pub record Playable (c : Curve) (p : Played) : Type 0 where
@@ -46,18 +46,18 @@ rest-count c e (ask k x then) = unfold onceTold in same-count c 0 e (ask k x the
 counted : (s : Setup) (fits : Fits s) (c : Curve) (p : Played) (l : List Said) → Matches s fits c p l
     → toTell c p ≡ length l
 unfolding toTell
-counted s fits c Over [] at-over = refl
-counted s fits c (On t) l (at-step {e} {r = r} at) =
+counted s fits c Done [] at-over = refl
+counted s fits c (Pending t) l (at-step {e} {r = r} at) =
     ap (λ (q : Rest Report). length (telling c 0 q)) (at .leaves) ∙ rest-count c e r
 
-says-one : (c : Curve) (n : ℕ) (t : Step) → 0 < n → 0 < length (saidIn n c (On t))
+says-one : (c : Curve) (n : ℕ) (t : Turn) → 0 < n → 0 < length (saidIn n c (Pending t))
 unfolding saidIn
 says-one c zero t h = absurd (omega arith)
 says-one c (suc n) t h = omega arith
 
 -- from p, which goes on with t, n turns lead to q
-module _ (c : Curve) (n : ℕ) (p q : Played) (t : Step) (m : Playable c p) (e : p ≡ On t)
-    (f : q ≡ leftAfter n c (On t)) where
+module _ (c : Curve) (n : ℕ) (p q : Played) (t : Turn) (m : Playable c p) (e : p ≡ Pending t)
+    (f : q ≡ leftAfter n c (Pending t)) where
   leads : q ≡ leftAfter n c p
   leads = f ∙ ap (leftAfter n c) (sym e)
 
@@ -78,7 +78,7 @@ module _ (c : Curve) (n : ℕ) (p q : Played) (t : Step) (m : Playable c p) (e :
       omega arith
 
 -- what a job begins is such a play
-pub begun-playable : (bytes : List ℕ) (c : Curve) (t : Step) → beginOf bytes ≡ value (c, t) → Playable c (On t)
+pub begun-playable : (bytes : List ℕ) (c : Curve) (t : Turn) → beginOf bytes ≡ value (c, t) → Playable c (Pending t)
 begun-playable bytes c t h =
     let b = begun bytes c t h in
     record {

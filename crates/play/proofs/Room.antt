@@ -13,11 +13,11 @@ use borrow.Author.Tests.{lt-ltb}
 use Rattle.runs.specs.Outcomes.{Word, met, wolfe, approximate, stop, limit, refusal, Told, asks, ends}
 use Rattle.curves.specs.declared.Curve.{Curve}
 use Rattle.text.specs.Text.{Page, page, put, write, Writes, digit, decimalUpTo}
-use Rattle.lines.specs.Lines.{verdictText, lineOf}
+use Rattle.lines.specs.Lines.{verdictText, outcomeLine}
 use Rattle.play.specs.declared.Played.{Played}
-use Rattle.play.specs.declared.Played.the-variants.{On, Over}
+use Rattle.play.specs.declared.Played.the-variants.{Pending, Done}
 use Rattle.play.specs.Telling.{Said, textOf}
-use Rattle.play.specs.Playing.{nextOf, saidIn}
+use Rattle.play.specs.Playing.{answeredOf, saidIn}
 
 -- ---- lines are short
 short-decimal : (k n : ℕ) → length (decimalUpTo k n) ≤ k
@@ -35,7 +35,7 @@ short-verdict met = omega arith
 short-verdict wolfe = omega arith
 short-verdict approximate = omega arith
 
-short-line : (t : Told) (e i : ℕ) → length (lineOf t e i) ≤ 99
+short-line : (t : Told) (e i : ℕ) → length (outcomeLine t e i) ≤ 99
 short-line (asks x) e i = omega arith
 short-line (ends (stop w x)) e i =
     simp length-append (omega (arith, short-verdict w, short-decimal 20 e, short-decimal 20 i))
@@ -53,8 +53,8 @@ short-text (s ∷ l) =
 few-said : (n : ℕ) (c : Curve) (p : Played) → length (saidIn n c p) ≤ n
 unfolding saidIn
 few-said zero c p = omega arith
-few-said (suc n) c Over = omega arith
-few-said (suc n) c (On t) = let h = few-said n c (nextOf c t) in omega arith
+few-said (suc n) c Done = omega arith
+few-said (suc n) c (Pending t) = let h = few-said n c (answeredOf c t) in omega arith
 
 -- ---- a text for which there is room is written whole
 written : (held : List ℕ) (at : ℕ) (t : List ℕ) → at + length t ≤ length held

@@ -9,22 +9,22 @@ use native.Mathlib.Omega.{arith}
 use lib.Ieee.{Float, binary64, ofBits, ofInt, add, sub, mul, neg, le, lt}
 use Rattle.refusals.specs.Results.{value}
 use Rattle.runs.specs.Outcomes.{wolfe, stop, Told, asks, ends}
-use Rattle.runs.specs.Asking.{Search, keeping, question}
+use Rattle.runs.specs.Asking.{Rest, keeping, question}
 use Rattle.refusals.proofs.Refusals.{Passed, and, all, value-given}
 use Rattle.hagerzhang_rules.specs.declared.Point.{Point}
 use Rattle.hagerzhang_rules.specs.Parameters.{defaultOptions}
-use Rattle.hagerzhang_rules.specs.Rules.{point, bracket, answerFinite, Report, noneYet, iterationsIn, bestOver, judgedOf, decided, verdict, rounds, askStart, askHigh, search}
+use Rattle.hagerzhang_rules.specs.Rules.{point, bracket, answerFinite, Report, noneYet, iterationsIn, bestOver, judgeOf, decided, verdict, rounds, askStart, askHigh, hagerZhang}
 use Rattle.curves.specs.declared.Curve.{Curve}
 use Rattle.curves.specs.Curves.{table, valueOf, slopeOf}
 use Rattle.text.specs.Text.{bytes}
 use Rattle.lines.proofs.Samples.{samples}
 use Rattle.jobs.specs.declared.Job.{Job}
-use Rattle.jobs.specs.Format.{Field, sizeOf, Holds, nothing, field, bodyOf, optionsOf, decoded, meansOf}
+use Rattle.jobs.specs.Format.{Field, sizeOf, WellFormed, nothing, field, bodyOf, optionsOf, decoded, meansOf}
 use Rattle.jobs.specs.Reader.{jobOf}
 use Rattle.jobs.proofs.BothWays.{job-read}
 use Rattle.jobs.specs.Opening.{curveOf, setupFor, jobRows}
 use Rattle.play.specs.Telling.{Said, telling, textOf}
-use Rattle.play.specs.Output.{searchText, alone, jobText, outputOf}
+use Rattle.play.specs.Output.{searchText, orRefused, jobText, outputOf}
 
 -- ---- what the bytes say: curve 1, and the bounds 0 and 4
 
@@ -39,7 +39,7 @@ curve = record { tag = 1; body = 1 ∷ [] }
 abbrev bounds : Field
 bounds = record { tag = 2; body = 0 ∷ 0 ∷ 0 ∷ 0 ∷ 0 ∷ 0 ∷ 0 ∷ 0 ∷ 64 ∷ 16 ∷ 0 ∷ 0 ∷ 0 ∷ 0 ∷ 0 ∷ 0 ∷ [] }
 
-holds : Holds 0 (curve ∷ bounds ∷ []) job
+holds : WellFormed 0 (curve ∷ bounds ∷ []) job
 unfolding sizeOf
 holds = field {t = 0} {f = curve} (omega arith) refl (field {t = 1} {f = bounds} (omega arith) refl nothing)
 
@@ -85,7 +85,7 @@ unfolding table add mul ofInt ofBits le lt
 no-row = and refl (and refl (and refl (and refl all)))
 
 -- ---- what its search tells. Of an answer: cost and slope of the curve there, and that they are finite
-asked : (c : Curve) (e : ℕ) (k : Report) (x : Float) (then : Float → Float → Search Report) (f g : Float)
+asked : (c : Curve) (e : ℕ) (k : Report) (x : Float) (then : Float → Float → Rest Report) (f g : Float)
     → valueOf c x ≡ f → slopeOf c x ≡ g → answerFinite f g ≡ true
     → telling c e (question answerFinite (keeping k) k x then)
     ≡ record { told = asks x; evaluations = e; iterations = iterationsIn k } ∷ telling c (e + 1) (then f g)
@@ -117,8 +117,8 @@ over = curveOf j
 abbrev says-at : Told → ℕ → Said
 says-at t e = record { told = t; evaluations = e; iterations = 0 }
 
-at-low : telling over 0 (search (setupFor j)) ≡ says-at (asks zero) 0 ∷ telling over 1 (askHigh (setupFor j) low)
-unfolding search table add mul ofInt ofBits
+at-low : telling over 0 (hagerZhang (setupFor j)) ≡ says-at (asks zero) 0 ∷ telling over 1 (askHigh (setupFor j) low)
+unfolding hagerZhang table add mul ofInt ofBits
 at-low = asked over 0 noneYet zero _ one -two refl refl refl
 
 at-high : telling over 1 (askHigh (setupFor j) low)
@@ -132,14 +132,14 @@ unfolding askStart table add mul ofInt ofBits
 at-start = asked over 2 noneYet one _ zero zero refl refl refl
 
 at-end : telling over 3 (rounds (setupFor j) 100 (bracket low high) start 0) ≡ says-at (ends (stop wolfe one)) 3 ∷ []
-unfolding telling rounds verdict decided judgedOf bestOver table add sub mul neg le lt ofInt ofBits
+unfolding telling rounds verdict decided judgeOf bestOver table add sub mul neg le lt ofInt ofBits
 at-end = refl
 
 abbrev fourSaid : List Said
 fourSaid =
     says-at (asks zero) 0 ∷ says-at (asks four) 1 ∷ says-at (asks one) 2 ∷ says-at (ends (stop wolfe one)) 3 ∷ []
 
-tells : telling over 0 (search (setupFor j)) ≡ fourSaid
+tells : telling over 0 (hagerZhang (setupFor j)) ≡ fourSaid
 tells =
     at-low
     ∙ ap (λ (l : List Said). says-at (asks zero) 0 ∷ l)
@@ -166,4 +166,4 @@ lines =
 
 pub sample : outputOf job ≡ text
 sample =
-    ap jobText is-job ∙ ap alone (value-given (jobRows j) (searchText j) no-row) ∙ ap textOf tells ∙ lines
+    ap jobText is-job ∙ ap orRefused (value-given (jobRows j) (searchText j) no-row) ∙ ap textOf tells ∙ lines

@@ -4,22 +4,22 @@ use mathlib.Core.List.{[], _∷_}
 use Prim.Native.Nat.{ℕ, zero, suc, _-_, _<_, _≤_}
 use native.Mathlib.Omega.{arith}
 use Rattle.curves.specs.declared.Curve.{Curve}
-use Rattle.hagerzhang.specs.declared.Step.{Step}
+use Rattle.hagerzhang.specs.declared.state.Turn.{Turn}
 use Rattle.text.specs.Text.{Page, write}
 use Rattle.text.proofs.Writing.{nothing, then}
 use Rattle.play.specs.declared.Played.{Played}
-use Rattle.play.specs.declared.Played.the-variants.{On, Over}
+use Rattle.play.specs.declared.Played.the-variants.{Pending, Done}
 use Rattle.play.specs.Telling.{saidLine, textOf}
-use Rattle.play.specs.Playing.{saidOf, nextOf, saidIn, leftAfter}
+use Rattle.play.specs.Playing.{saidOf, answeredOf, saidIn, leftAfter}
 
 module _ (c : Curve) where
   -- nothing follows the end
-  silent : (n : ℕ) → saidIn n c Over ≡ []
+  silent : (n : ℕ) → saidIn n c Done ≡ []
   unfolding saidIn
   silent zero = refl
   silent (suc n) = refl
 
-  stays-over : (n : ℕ) → leftAfter n c Over ≡ Over
+  stays-over : (n : ℕ) → leftAfter n c Done ≡ Done
   unfolding leftAfter
   stays-over zero = refl
   stays-over (suc n) = refl
@@ -32,12 +32,12 @@ module _ (c : Curve) where
   unfolding leftAfter
   all-left p = refl
 
-  said-first : (n : ℕ) (t : Step) → 0 < n → saidIn n c (On t) ≡ saidOf t ∷ saidIn (n - 1) c (nextOf c t)
+  said-first : (n : ℕ) (t : Turn) → 0 < n → saidIn n c (Pending t) ≡ saidOf t ∷ saidIn (n - 1) c (answeredOf c t)
   unfolding saidIn
   said-first zero t h = absurd (omega arith)
   said-first (suc n) t h = let e : suc n - 1 ≡ n = omega arith in rw e
 
-  left-first : (n : ℕ) (t : Step) → 0 < n → leftAfter n c (On t) ≡ leftAfter (n - 1) c (nextOf c t)
+  left-first : (n : ℕ) (t : Turn) → 0 < n → leftAfter n c (Pending t) ≡ leftAfter (n - 1) c (answeredOf c t)
   unfolding leftAfter
   left-first zero t h = absurd (omega arith)
   left-first (suc n) t h = let e : suc n - 1 ≡ n = omega arith in rw e
@@ -46,7 +46,7 @@ module _ (c : Curve) where
   abbrev pub ahead : ℕ → Played → Page → Page
   ahead n p q = write q (textOf (saidIn n c p))
 
-  pub at-over : (n : ℕ) (p : Played) (q : Page) → p ≡ Over → (p ≡ leftAfter n c p) × (q ≡ ahead n p q)
+  pub at-over : (n : ℕ) (p : Played) (q : Page) → p ≡ Done → (p ≡ leftAfter n c p) × (q ≡ ahead n p q)
   unfolding textOf
   at-over n p q e = (rw (e, stays-over n), rw (e, silent n) (nothing q))
 
@@ -57,12 +57,12 @@ module _ (c : Curve) where
       (rw z (sym (all-left p)), rw (z, none-said p) (nothing q))
 
   -- one turn, which writes a line
-  pub turn-left : (n : ℕ) (p q : Played) (t : Step) → 0 < n → p ≡ On t → q ≡ nextOf c t
+  pub turn-left : (n : ℕ) (p q : Played) (t : Turn) → 0 < n → p ≡ Pending t → q ≡ answeredOf c t
       → leftAfter (n - 1) c q ≡ leftAfter n c p
   turn-left n p q t h e f = rw (e, f) (sym (left-first n t h))
 
-  pub turn-ahead : (n : ℕ) (p q : Played) (t : Step) (a b : Page) → 0 < n → p ≡ On t → q ≡ nextOf c t
+  pub turn-ahead : (n : ℕ) (p q : Played) (t : Turn) (a b : Page) → 0 < n → p ≡ Pending t → q ≡ answeredOf c t
       → b ≡ write a (saidLine (saidOf t)) → ahead (n - 1) q b ≡ ahead n p a
   unfolding textOf
   turn-ahead n p q t a b h e f w =
-      rw (e, f, said-first n t h) (then a (saidLine (saidOf t)) (textOf (saidIn (n - 1) c (nextOf c t))) w refl)
+      rw (e, f, said-first n t h) (then a (saidLine (saidOf t)) (textOf (saidIn (n - 1) c (answeredOf c t))) w refl)

@@ -3,7 +3,7 @@
 use Prim.Native.Nat.{ℕ}
 use mathlib.Core.List.{List}
 use Rattle.refusals.specs.Results.{Result, value, refused, refuse_else_}
-use Rattle.hagerzhang_rules.specs.Rules.{search}
+use Rattle.hagerzhang_rules.specs.Rules.{hagerZhang}
 use Rattle.lines.specs.Lines.{refusedLine}
 use Rattle.jobs.specs.declared.Job.{Job}
 use Rattle.jobs.specs.Reader.{jobOf}
@@ -12,15 +12,15 @@ use Rattle.play.specs.Telling.{telling, textOf}
 
 -- a search over the job's curve, from no evaluations on
 abbrev pub searchText : Job → List ℕ
-searchText j = textOf (telling (curveOf j) 0 (search (setupFor j)))
+searchText j = textOf (telling (curveOf j) 0 (hagerZhang (setupFor j)))
 
 -- "or `REFUSED n` alone"
-abbrev pub alone : Result (List ℕ) → List ℕ
-alone (value text) = text
-alone (refused n) = refusedLine n
+abbrev pub orRefused : Result (List ℕ) → List ℕ
+orRefused (value text) = text
+orRefused (refused n) = refusedLine n
 
 abbrev pub jobText : Result Job → List ℕ
-jobText (value j) = alone (refuse (jobRows j) else searchText j)
+jobText (value j) = orRefused (refuse (jobRows j) else searchText j)
 jobText (refused n) = refusedLine n
 
 abbrev pub outputOf : List ℕ → List ℕ

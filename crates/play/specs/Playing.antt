@@ -10,17 +10,17 @@ use Rattle.hagerzhang_rules.specs.Rules.{iterationsIn}
 use Rattle.text.specs.Text.{Writes}
 use Rattle.curves.specs.declared.Curve.{Curve}
 use Rattle.curves.specs.Curves.{valueOf, slopeOf}
-use Rattle.hagerzhang.specs.declared.Search.{Search}
-use Rattle.hagerzhang.specs.declared.Step.{Step}
+use Rattle.hagerzhang.specs.declared.state.Search.{Search}
+use Rattle.hagerzhang.specs.declared.state.Turn.{Turn}
 use Rattle.hagerzhang.specs.Machine.{answerOf}
 use Rattle.hagerzhang.specs.Meaning.{report}
 use Rattle.play.specs.declared.Played.{Played}
-use Rattle.play.specs.declared.Played.the-variants.{On, Over}
+use Rattle.play.specs.declared.Played.the-variants.{Pending, Done}
 use Rattle.play.specs.declared.Written.{Written}
 use Rattle.play.specs.Telling.{Said, textOf}
 
 -- what a step says
-abbrev pub saidOf : Step → Said
+abbrev pub saidOf : Turn → Said
 saidOf t = record {
   told = told (t .outcome);
   evaluations = t .search .evaluations .0;
@@ -29,24 +29,24 @@ saidOf t = record {
 
 -- what follows it: the curve answers a step that is asked; any other outcome is the last
 unfoldable pub answeredBy : Curve → Search → Outcome → Played
-answeredBy c s (Ask x) = On (answerOf s (valueOf c x) (slopeOf c x))
-answeredBy c s (Stop v x) = Over
-answeredBy c s (Limit x) = Over
-answeredBy c s (Refused k) = Over
+answeredBy c s (Ask x) = Pending (answerOf s (valueOf c x) (slopeOf c x))
+answeredBy c s (Stop v x) = Done
+answeredBy c s (Limit x) = Done
+answeredBy c s (Refused k) = Done
 
-abbrev pub nextOf : Curve → Step → Played
-nextOf c t = answeredBy c (t .search) (t .outcome)
+abbrev pub answeredOf : Curve → Turn → Played
+answeredOf c t = answeredBy c (t .search) (t .outcome)
 
 -- n turns: what is said in them, and what is left
 unfoldable pub saidIn : ℕ → Curve → Played → List Said
 saidIn zero c p = []
-saidIn (suc n) c Over = []
-saidIn (suc n) c (On t) = saidOf t ∷ saidIn n c (nextOf c t)
+saidIn (suc n) c Done = []
+saidIn (suc n) c (Pending t) = saidOf t ∷ saidIn n c (answeredOf c t)
 
 unfoldable pub leftAfter : ℕ → Curve → Played → Played
 leftAfter zero c p = p
-leftAfter (suc n) c Over = Over
-leftAfter (suc n) c (On t) = leftAfter n c (nextOf c t)
+leftAfter (suc n) c Done = Done
+leftAfter (suc n) c (Pending t) = leftAfter n c (answeredOf c t)
 
 -- what `play`'s contract says of a result r of so many turns: what is left of the play, and the buffer with the lines
 -- of these turns written at its place

@@ -2,17 +2,17 @@
 // written as a line.
 
 use curves::Curve;
-use hagerzhang::Step;
+use hagerzhang::Turn;
 use runs::Outcome;
 ghost use mathlib.Core.Path.{_≡_};
 ghost use Rattle.text.specs.Text.{Writes};
 ghost use Rattle.play.specs.Telling.{saidLine};
-ghost use Rattle.play.specs.Playing.{saidOf, nextOf, PlaySaid};
+ghost use Rattle.play.specs.Playing.{saidOf, answeredOf, PlaySaid};
 
 // A play goes on with a step whose outcome is still to be told, or everything is told.
 pub enum Played {
-    On(Step),
-    Over,
+    Pending(Turn),
+    Done,
 }
 
 // What is left of a play, and the place behind what was written.
@@ -22,7 +22,7 @@ pub struct Written {
 }
 
 // The line of a step's outcome.
-fn line(out: &mut [u8], at: usize, t: Step) -> usize
+fn line(out: &mut [u8], at: usize, t: Turn) -> usize
     ensures { λ r. ⌜ Writes (now (out .entry)) at (saidLine (saidOf t)) (now (out .exit)) r ⌝ }
 {
     let s = t.search;
@@ -33,16 +33,16 @@ fn line(out: &mut [u8], at: usize, t: Step) -> usize
 }
 
 // The curve answers a step that is asked; any other outcome is the last.
-fn answered(c: Curve, t: Step) -> Played
-    ensures { λ r. ⌜ r ≡ nextOf c t ⌝ }
+fn answered(c: Curve, t: Turn) -> Played
+    ensures { λ r. ⌜ r ≡ answeredOf c t ⌝ }
 {
     let s = t.search;
     let o = t.outcome;
     match o {
-        Outcome::Ask(x) => Played::On(hagerzhang::answer(s, c.value(x), c.slope(x))),
-        Outcome::Stop(_, _) => Played::Over,
-        Outcome::Limit(_) => Played::Over,
-        Outcome::Refused(_) => Played::Over,
+        Outcome::Ask(x) => Played::Pending(hagerzhang::answer(s, c.value(x), c.slope(x))),
+        Outcome::Stop(_, _) => Played::Done,
+        Outcome::Limit(_) => Played::Done,
+        Outcome::Refused(_) => Played::Done,
     }
 }
 
@@ -54,7 +54,7 @@ pub fn play(c: Curve, from: Played, turns: u32, out: &mut [u8], at: usize) -> Wr
     let mut next = at;
     let mut left = turns;
     while 0 < left {
-        let Played::On(t) = played else {
+        let Played::Pending(t) = played else {
             return Written { played, at: next };
         };
         next = line(out, next, t);

@@ -4,15 +4,15 @@ use Prim.Native.Nat.{ℕ, _+_}
 use mathlib.Core.Bool.{Bool, cond, not}
 use mathlib.Core.List.{List, [], _∷_}
 use lib.Ieee.{Float}
-use Rattle.runs.specs.Asking.{ask, end, Search, Reply}
+use Rattle.runs.specs.Asking.{ask, end, Rest, Reply}
 
 module _ {K : Type 0} where
-  unfoldable pub accepted : (Float → Float → Bool) → Search K → List Reply → ℕ
+  unfoldable pub accepted : (Float → Float → Bool) → Rest K → List Reply → ℕ
   accepted isFinite r [] = 0
   accepted isFinite (end o) (y ∷ ys) = 0
   accepted isFinite (ask k x then) (y ∷ ys) =
       cond (isFinite (y .0) (y .1)) 1 0 + accepted isFinite (then (y .0) (y .1)) ys
 
   -- and those that do not pass it
-  abbrev pub notFinite : (Float → Float → Bool) → Search K → List Reply → ℕ
+  abbrev pub notFinite : (Float → Float → Bool) → Rest K → List Reply → ℕ
   notFinite isFinite r ys = accepted (λ f g. not (isFinite f g)) r ys

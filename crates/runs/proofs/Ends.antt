@@ -11,42 +11,42 @@ use lib.ListN.{length}
 use lib.Ieee.{Float}
 use Rattle.runs.proofs.Machines.{none-more}
 use Rattle.runs.specs.Outcomes.{refusal, answerNotFinite}
-use Rattle.runs.specs.Asking.{ask, end, Search, Over, over, keeping, question, Reply, respond, isOver, after}
+use Rattle.runs.specs.Asking.{ask, end, Rest, Ended, endWith, keeping, question, Reply, respond, isOver, after}
 use Rattle.runs.proofs.Accepted.{accepted, notFinite}
 
-pub data Ends {K : Type 0} (finite : Float → Float → Bool) : ℕ → Search K → Type 0 where
-  at-end : {n : ℕ} {o : Over K} → Ends finite n (end o)
-  at-ask : {n : ℕ} {k : K} {x : Float} {then : Float → Float → Search K}
-      → ((f g : Float) → finite f g ≡ false → then f g ≡ over k (refusal (answerNotFinite f g)))
-      → ((f g : Float) → Ends finite n (then f g)) → Ends finite (suc n) (ask k x then)
+pub data EndsWithin {K : Type 0} (finite : Float → Float → Bool) : ℕ → Rest K → Type 0 where
+  at-end : {n : ℕ} {o : Ended K} → EndsWithin finite n (end o)
+  at-ask : {n : ℕ} {k : K} {x : Float} {then : Float → Float → Rest K}
+      → ((f g : Float) → finite f g ≡ false → then f g ≡ endWith k (refusal (answerNotFinite f g)))
+      → ((f g : Float) → EndsWithin finite n (then f g)) → EndsWithin finite (suc n) (ask k x then)
 
 one-at-most : (b : Bool) (m n : ℕ) → m ≤ n → cond b 1 0 + m ≤ suc n
 one-at-most true m n h = omega arith
 one-at-most false m n h = omega arith
 
 module _ {K : Type 0} where
-  stays-over : (o : Over K) (ys : List Reply) → isOver (after (end o) ys) ≡ true
+  stays-over : (o : Ended K) (ys : List Reply) → isOver (after (end o) ys) ≡ true
   unfolding isOver after respond
   stays-over o [] = refl
   stays-over o (y ∷ ys) = stays-over _ ys
 
 module _ {K : Type 0} {finite : Float → Float → Bool} where
-  pub ends-within : {n : ℕ} {r : Search K} → Ends finite n r → (m : ℕ) → n ≤ m → Ends finite m r
+  pub ends-within : {n : ℕ} {r : Rest K} → EndsWithin finite n r → (m : ℕ) → n ≤ m → EndsWithin finite m r
   ends-within at-end m h = at-end
   ends-within (at-ask u e) zero h = absurd (not-suc-le-zero h)
   ends-within (at-ask u e) (suc m) h = at-ask u (λ f g. ends-within (e f g) m (le-of-suc-le-suc h))
 
-  pub ends-if : {n : ℕ} (b : Bool) {r q : Search K} → Ends finite n r → Ends finite n q → Ends finite n (cond b r q)
+  pub ends-if : {n : ℕ} (b : Bool) {r q : Rest K} → EndsWithin finite n r → EndsWithin finite n q → EndsWithin finite n (cond b r q)
   ends-if true h k = h
   ends-if false h k = k
 
-  pub question-ends : {n : ℕ} (k : K) (x : Float) (then : Float → Float → Search K)
-      → ((f g : Float) → Ends finite n (then f g)) → Ends finite (suc n) (question finite (keeping k) k x then)
+  pub question-ends : {n : ℕ} (k : K) (x : Float) (then : Float → Float → Rest K)
+      → ((f g : Float) → EndsWithin finite n (then f g)) → EndsWithin finite (suc n) (question finite (keeping k) k x then)
   question-ends k x then e =
-      at-ask {k = k} {then = λ f g. cond (finite f g) (then f g) (over k (refusal (answerNotFinite f g)))}
+      at-ask {k = k} {then = λ f g. cond (finite f g) (then f g) (endWith k (refusal (answerNotFinite f g)))}
       (λ f g u. rw u) (λ f g. ends-if (finite f g) (e f g) at-end)
 
-  pub ends-over : {n : ℕ} {r : Search K} → Ends finite n r → (ys : List Reply) → n ≤ length ys
+  pub ends-over : {n : ℕ} {r : Rest K} → EndsWithin finite n r → (ys : List Reply) → n ≤ length ys
       → isOver (after r ys) ≡ true
   unfolding isOver after respond
   ends-over (at-end {o = o}) ys h = stays-over o ys
@@ -54,7 +54,7 @@ module _ {K : Type 0} {finite : Float → Float → Bool} where
   ends-over (at-ask u e) (y ∷ ys) h = ends-over (e (y .0) (y .1)) ys (le-of-suc-le-suc h)
 
   -- whichever answers are counted
-  pub ends-accepted : (counted : Float → Float → Bool) {n : ℕ} {r : Search K} → Ends finite n r → (ys : List Reply)
+  pub ends-accepted : (counted : Float → Float → Bool) {n : ℕ} {r : Rest K} → EndsWithin finite n r → (ys : List Reply)
       → accepted counted r ys ≤ n
   unfolding accepted
   ends-accepted counted at-end [] = omega arith
@@ -65,7 +65,7 @@ module _ {K : Type 0} {finite : Float → Float → Bool} where
 
   -- ---- an answer that is not finite
 
-  pub non-finite-once : {n : ℕ} {r : Search K} → Ends finite n r → (ys : List Reply) → notFinite finite r ys ≤ 1
+  pub non-finite-once : {n : ℕ} {r : Rest K} → EndsWithin finite n r → (ys : List Reply) → notFinite finite r ys ≤ 1
   unfolding accepted
   non-finite-once at-end [] = omega arith
   non-finite-once at-end (y ∷ ys) = omega arith

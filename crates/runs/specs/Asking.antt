@@ -15,18 +15,18 @@ pub data Run (K R : Type 0) : Type 0 where
   end : R → Run K R
 
 -- a whole search: at its end it keeps what it then reports, and says how it ended; a refusal carries its reason
-pub record Over (K : Type 0) : Type 0 where
+pub record Ended (K : Type 0) : Type 0 where
   pub keeps : K
   pub by : Ending Why
 
-abbrev pub Search : Type 0 → Type 0
-Search K = Run K (Over K)
+abbrev pub Rest : Type 0 → Type 0
+Rest K = Run K (Ended K)
 
-abbrev pub over : {K : Type 0} → K → Ending Why → Search K
-over k e = end (record { keeps = k; by = e })
+abbrev pub endWith : {K : Type 0} → K → Ending Why → Rest K
+endWith k e = end (record { keeps = k; by = e })
 
 -- over by a refusal, keeping what was reported
-abbrev pub keeping : {K : Type 0} → K → Why → Over K
+abbrev pub keeping : {K : Type 0} → K → Why → Ended K
 keeping k why = record { keeps = k; by = refusal why }
 
 -- an answer: cost and slope
@@ -35,46 +35,46 @@ Reply = Float × Float
 
 module _ {K : Type 0} where
   -- 01, refusal 8: a search that is over refuses whatever is said to it, and reports what it did ("state unchanged")
-  unfoldable pub respond : Search K → Float → Float → Search K
+  unfoldable pub respond : Rest K → Float → Float → Rest K
   respond (ask k x then) f g = then f g
-  respond (end o) f g = over (o .keeps) (refusal alreadyOver)
+  respond (end o) f g = endWith (o .keeps) (refusal alreadyOver)
 
   -- what a search tells when it has come here, a refusal by its number, and what it reports
-  unfoldable pub shown : Search K → Told
+  unfoldable pub shown : Rest K → Told
   shown (ask k x then) = asks x
   shown (end o) = ends (numbered (o .by))
 
-  unfoldable pub reported : Search K → K
+  unfoldable pub reported : Rest K → K
   reported (ask k x then) = k
   reported (end o) = o .keeps
 
   -- the step at which an answer is awaited
-  unfoldable pub awaits : Search K → Option Float
+  unfoldable pub awaits : Rest K → Option Float
   awaits (ask k x then) = some x
   awaits (end o) = none
 
-  unfoldable pub isOver : Search K → Bool
+  unfoldable pub isOver : Rest K → Bool
   isOver (ask k x then) = false
   isOver (end o) = true
 
   -- what is left of a search once it has told its outcome: where it ended, it refuses whatever is said to it (8). A
   -- state of the machine stands for this
-  unfoldable pub onceTold : Search K → Search K
+  unfoldable pub onceTold : Rest K → Rest K
   onceTold (ask k x then) = ask k x then
-  onceTold (end o) = over (o .keeps) (refusal alreadyOver)
+  onceTold (end o) = endWith (o .keeps) (refusal alreadyOver)
 
   -- what a start tells: the first step, or the refusal
-  abbrev pub firstOf : Result (Search K) → Told
+  abbrev pub firstOf : Result (Rest K) → Told
   firstOf (value r) = shown r
   firstOf (refused n) = ends (refusal n)
 
   -- ---- for any list of answers: what they bring, and where they lead
 
-  unfoldable pub outcomes : Search K → List Reply → List Told
+  unfoldable pub outcomes : Rest K → List Reply → List Told
   outcomes r [] = []
   outcomes r (y ∷ ys) = shown (respond r (y .0) (y .1)) ∷ outcomes (respond r (y .0) (y .1)) ys
 
-  unfoldable pub after : Search K → List Reply → Search K
+  unfoldable pub after : Rest K → List Reply → Rest K
   after r [] = r
   after r (y ∷ ys) = after (respond r (y .0) (y .1)) ys
 
@@ -96,6 +96,6 @@ module _ {S : Type 0} (next : S → Float → Float → S) where
 
   -- how many of the answers are given while it asks, and pass the test
   unfoldable pub tallied : (S → Bool) → (Float → Float → Bool) → S → List Reply → ℕ
-  tallied asking test s [] = 0
-  tallied asking test s (y ∷ ys) =
-      cond (asking s && test (y .0) (y .1)) 1 0 + tallied asking test (next s (y .0) (y .1)) ys
+  tallied awaiting test s [] = 0
+  tallied awaiting test s (y ∷ ys) =
+      cond (awaiting s && test (y .0) (y .1)) 1 0 + tallied awaiting test (next s (y .0) (y .1)) ys

@@ -7,8 +7,8 @@ use lib.Dec.{ltb}
 use Rattle.runs.specs.declared.Evaluations.{Evaluations}
 use Rattle.runs.specs.declared.Iterations.{Iterations}
 
-unfoldable pub counted : ℕ → ℕ
-counted n = cond (ltb n 4294967295) (n + 1) n
+unfoldable pub oneMore : ℕ → ℕ
+oneMore n = cond (ltb n 4294967295) (n + 1) n
 
 abbrev pub evaluations : ℕ → Evaluations
 evaluations n = record { 0 = n }

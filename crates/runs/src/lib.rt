@@ -2,7 +2,7 @@
 
 use refusals::Refusal;
 ghost use mathlib.Core.Path.{_≡_};
-ghost use Rattle.runs.specs.Counters.{counted, evaluations, iterations};
+ghost use Rattle.runs.specs.Counters.{oneMore, evaluations, iterations};
 
 pub enum Verdict {
     // backtracking: the condition is met
@@ -28,14 +28,14 @@ pub struct Iterations(pub u32);
 
 // One more. It stops at the largest count, which no search that was started reaches.
 fn one_more(n: u32) -> u32
-    ensures { λ r. ⌜ r ≡ counted n ⌝ }
+    ensures { λ r. ⌜ r ≡ oneMore n ⌝ }
 {
     if n < 4294967295 { n + 1 } else { n }
 }
 
 impl Evaluations {
     pub fn next(self) -> Evaluations
-        ensures { λ r. ⌜ r ≡ evaluations (counted (self .0)) ⌝ }
+        ensures { λ r. ⌜ r ≡ evaluations (oneMore (self .0)) ⌝ }
     {
         Evaluations(one_more(self.0))
     }
@@ -43,7 +43,7 @@ impl Evaluations {
 
 impl Iterations {
     pub fn next(self) -> Iterations
-        ensures { λ r. ⌜ r ≡ iterations (counted (self .0)) ⌝ }
+        ensures { λ r. ⌜ r ≡ iterations (oneMore (self .0)) ⌝ }
     {
         Iterations(one_more(self.0))
     }

@@ -1,6 +1,6 @@
 // Runs the job on standard input, and writes what its search tells to standard output, a line for each outcome.
 use curves::Curve;
-use hagerzhang::Step;
+use hagerzhang::Turn;
 use jobs::Opened;
 use libc::STDIN_FILENO;
 use libc::STDOUT_FILENO;
@@ -18,11 +18,11 @@ fn put(page: &[u8], n: usize)
 }
 
 // The lines of some turns.
-fn tell_some(c: Curve, t: Step) -> Played
-    ensures { λ r. ⌜ r ≡ leftAfter 512 c (Played.On t) ⌝ }
+fn tell_some(c: Curve, t: Turn) -> Played
+    ensures { λ r. ⌜ r ≡ leftAfter 512 c (Played.Pending t) ⌝ }
 {
     let mut page = io::large_buffer();
-    let w = play::play(c, Played::On(t), 512, &mut page, 0);
+    let w = play::play(c, Played::Pending(t), 512, &mut page, 0);
     let n = w.at;
     let played = w.played;
     put(&page, n);
@@ -30,12 +30,12 @@ fn tell_some(c: Curve, t: Step) -> Played
 }
 
 // The lines of the whole play. It ends: each turn leaves less to tell.
-fn tell(c: Curve, t: Step)
-    requires { ⌜ Playable c (Played.On t) ⌝ }
+fn tell(c: Curve, t: Turn)
+    requires { ⌜ Playable c (Played.Pending t) ⌝ }
 {
-    let mut played = Played::On(t);
+    let mut played = Played::Pending(t);
     loop {
-        let Played::On(next) = played else {
+        let Played::Pending(next) = played else {
             return;
         };
         played = tell_some(c, next);

@@ -8,11 +8,11 @@ use Rattle.cases.proofs.run.Statement.{statement}
 use Rattle.cases.proofs.run.Tie as tie
 
 abbrev Inv-loop : tie.InvT-loop
-Inv-loop buf₀ out₀ desk₀ b₀ from₀ to₀ ended₀ turns₀ buf out desk b from to ended turns =
+Inv-loop buf₀ out₀ progress₀ b₀ from₀ to₀ ended₀ turns₀ buf out progress b from to ended turns =
     (from ≤ to) × (to ≤ length buf) × (length buf ≡ length buf₀) × (length out ≡ length out₀)
 
 abbrev μ-loop : tie.MeasureT-loop
-μ-loop buf₀ out₀ desk₀ b₀ from₀ to₀ ended₀ turns₀ buf out desk b from to ended turns = turns
+μ-loop buf₀ out₀ progress₀ b₀ from₀ to₀ ended₀ turns₀ buf out progress b from to ended turns = turns
 
 pub run-spec : {M : Type 1} → statement M
 run-spec =

@@ -38,7 +38,7 @@ returns-4 c =
           (c .before .before .before .before .before .if2 .left),
       ← c .before .before .before .before .abs .ensures,
       not-not-by-call _ _ (c .before .before .both-finite .ensures) (c .before .if3 .left),
-      c .fresh-search .ensures,
+      c .fresh .ensures,
     ))
 
 pub start-spec : {M : Type 1} → statement M

@@ -8,13 +8,13 @@ returns : tie.Need-returns
 unfolding takenOf
 returns c =
     rw (sym (c .before .before .before .before .both-finite .ensures) ∙ c .before .before .before .if1 .taken)
-    (c .stepped .ensures ∙ rw (c .before .react .ensures, c .before .before .next .ensures))
+    (c .turned .ensures ∙ rw (c .before .react .ensures, c .before .before .next .ensures))
 
 returns-2 : tie.Need-returns-2
 unfolding takenOf
 returns-2 c =
     rw (sym (c .before .before .before .before .both-finite .ensures) ∙ c .before .before .before .if1 .left)
-    (c .stepped2 .ensures ∙ rw (c .before .over .ensures, c .before .before .keeps .ensures))
+    (c .turned2 .ensures ∙ rw (c .before .ended .ensures, c .before .before .keeps .ensures))
 
 pub taken-spec : {M : Type 1} → statement M
 taken-spec =

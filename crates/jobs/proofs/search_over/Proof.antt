@@ -7,8 +7,8 @@ use Rattle.hagerzhang_rules.specs.declared.Options.{Options}
 use Rattle.hagerzhang_rules.specs.Parameters.{setupOf, startRows}
 use Rattle.curves.specs.declared.Curve.{Curve}
 use Rattle.curves.specs.Curves.{valueOf, slopeOf}
-use Rattle.hagerzhang.specs.declared.Started.{Started}
-use Rattle.hagerzhang.specs.Machine.{fresh, startedTold, StartSaid}
+use Rattle.hagerzhang.specs.declared.state.Started.{Started}
+use Rattle.hagerzhang.specs.Machine.{freshOf, startedTold, StartSaid}
 use Rattle.jobs.specs.Opening.{overCurve}
 use Rattle.jobs.proofs.Refusals.{on, on-rows}
 use Rattle.jobs.proofs.search_over.Statement.{statement}
@@ -21,7 +21,7 @@ beside c o f0 s0 r q e e' said same =
     let a = valueOf c 0ᶠ in
     let b = slopeOf c 0ᶠ in
     ap (λ (k : Started). on c (startedTold k)) (sym same) ∙ ap (on c) said
-    ∙ rw (e, e') (on-rows c (startRows o a b) (fresh (setupOf o a b)))
+    ∙ rw (e, e') (on-rows c (startRows o a b) (freshOf (setupOf o a b)))
 
 returns : tie.Need-returns
 unfolding on

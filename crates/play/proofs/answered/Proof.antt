@@ -1,7 +1,7 @@
 -- `play::answered` meets its contract. Assumes nothing.
 use mathlib.Core.Path.{ap}
 use borrow.Author.Needs.{needs}
-use Rattle.play.specs.declared.Played.the-variants.{On}
+use Rattle.play.specs.declared.Played.the-variants.{Pending}
 use Rattle.play.specs.Playing.{answeredBy}
 use Rattle.play.proofs.answered.Statement.{statement}
 use Rattle.play.proofs.answered.Tie as tie
@@ -13,7 +13,7 @@ returns c =
       c .before .before .before .before .o .given .1,
       ← c .before .slope .ensures,
       ← c .before .before .value .ensures,
-    ) (ap On (c .answer .ensures .0))
+    ) (ap Pending (c .answer .ensures .0))
 
 returns-2 : tie.Need-returns-2
 unfolding answeredBy

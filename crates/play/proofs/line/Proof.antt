@@ -4,14 +4,14 @@ use borrow.Author.Needs.{needs}
 use Rattle.runs.specs.Counters.{iterations}
 use Rattle.runs.specs.declared.Iterations.{Iterations}
 use Rattle.hagerzhang_rules.specs.Rules.{iterationsIn}
-use Rattle.hagerzhang.specs.declared.Kept.{Kept}
-use Rattle.hagerzhang.specs.declared.Search.{Search}
-use Rattle.hagerzhang.specs.Machine.{keptIn}
+use Rattle.hagerzhang.specs.declared.state.Kept.{Kept}
+use Rattle.hagerzhang.specs.declared.state.Search.{Search}
+use Rattle.hagerzhang.specs.Machine.{heldOf}
 use Rattle.hagerzhang.specs.Meaning.{keptReport, report}
 use Rattle.play.proofs.line.Statement.{statement}
 use Rattle.play.proofs.line.Tie as tie
 
-finished : (s : Search) (k : Kept) (i : Iterations) → k ≡ keptIn s → i ≡ iterations (iterationsIn (keptReport k))
+finished : (s : Search) (k : Kept) (i : Iterations) → k ≡ heldOf s → i ≡ iterations (iterationsIn (keptReport k))
     → i .0 ≡ iterationsIn (report s)
 finished s k i e e' = ap (λ (n : Iterations). n .0) e' ∙ ap (λ (q : Kept). iterationsIn (keptReport q)) e
 

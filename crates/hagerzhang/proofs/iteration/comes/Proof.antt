@@ -1,6 +1,6 @@
 -- `hagerzhang::iteration::comes` meets its contract. Assumes nothing.
 use Rattle.floats.proofs.Branches.{tests}
-use Rattle.hagerzhang.specs.Machine.{comesOf}
+use Rattle.hagerzhang.specs.Iteration.{comesOf}
 use borrow.Author.Needs.{needs}
 use Rattle.hagerzhang.proofs.iteration.comes.Statement.{statement}
 use Rattle.hagerzhang.proofs.iteration.comes.Tie as tie

@@ -1,6 +1,6 @@
 -- `hagerzhang::iteration::follow` meets its contract. Assumes nothing.
 use Rattle.floats.proofs.Branches.{tests}
-use Rattle.hagerzhang.specs.Machine.{followBy}
+use Rattle.hagerzhang.specs.Iteration.{followBy}
 use borrow.Author.Needs.{needs}
 use Rattle.hagerzhang.proofs.iteration.follow.Statement.{statement}
 use Rattle.hagerzhang.proofs.iteration.follow.Tie as tie

@@ -1,6 +1,6 @@
 -- `hagerzhang::iteration::left` meets its contract. Assumes nothing.
 use Rattle.floats.proofs.Branches.{tests}
-use Rattle.hagerzhang.specs.Machine.{leftOf}
+use Rattle.hagerzhang.specs.Iteration.{leftOf}
 use borrow.Author.Needs.{needs}
 use Rattle.hagerzhang.proofs.iteration.left.Statement.{statement}
 use Rattle.hagerzhang.proofs.iteration.left.Tie as tie

@@ -1,6 +1,6 @@
 -- `hagerzhang::iteration::onward` meets its contract. Assumes nothing.
 use Rattle.floats.proofs.Branches.{tests}
-use Rattle.hagerzhang.specs.Machine.{onwardOf}
+use Rattle.hagerzhang.specs.Iteration.{onwardOf}
 use borrow.Author.Needs.{needs}
 use Rattle.hagerzhang.proofs.iteration.onward.Statement.{statement}
 use Rattle.hagerzhang.proofs.iteration.onward.Tie as tie

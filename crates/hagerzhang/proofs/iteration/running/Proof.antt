@@ -1,6 +1,6 @@
 -- `hagerzhang::iteration::running` meets its contract. Assumes nothing.
 use mathlib.Core.Path.{sym, _∙_}
-use Rattle.hagerzhang.specs.Machine.{wentOf}
+use Rattle.hagerzhang.specs.Iteration.{wentOf}
 use borrow.Author.Needs.{needs}
 use Rattle.hagerzhang.proofs.iteration.running.Statement.{statement}
 use Rattle.hagerzhang.proofs.iteration.running.Tie as tie

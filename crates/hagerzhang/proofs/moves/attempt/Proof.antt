@@ -1,6 +1,6 @@
 -- `hagerzhang::moves::attempt` meets its contract. Assumes nothing.
 use mathlib.Core.Path.{sym, _∙_}
-use Rattle.hagerzhang.specs.Machine.{attemptOf}
+use Rattle.hagerzhang.specs.Moves.{attemptOf}
 use Rattle.hagerzhang.proofs.moves.attempt.Statement.{statement}
 use Rattle.hagerzhang.proofs.moves.attempt.Tie as tie
 

@@ -1,6 +1,6 @@
 -- `hagerzhang::moves::made` meets its contract. Assumes nothing.
 use mathlib.Core.Path.{sym, _∙_}
-use Rattle.hagerzhang.specs.Machine.{madeBy}
+use Rattle.hagerzhang.specs.Moves.{madeBy}
 use borrow.Author.Needs.{needs}
 use Rattle.hagerzhang.proofs.moves.made.Statement.{statement}
 use Rattle.hagerzhang.proofs.moves.made.Tie as tie
@@ -19,7 +19,7 @@ returns-3 : tie.Need-returns-3
 unfolding madeBy
 returns-3 c =
     rw (sym (c .before .before .before .before .test .ensures) ∙ c .before .before .outcome .given .1)
-    (c .over .ensures)
+    (c .ended .ensures)
 
 pub made-spec : {M : Type 1} → statement M
 made-spec =

@@ -1,7 +1,7 @@
 -- `hagerzhang::moves::outlook` meets its contract. Assumes nothing.
 use mathlib.Core.Path.{sym, _∙_}
 use borrow.Author.Tests.{le-leb, lt-leb}
-use Rattle.hagerzhang.specs.Machine.{outlookBy}
+use Rattle.hagerzhang.specs.Moves.{outlookBy}
 use borrow.Author.Needs.{needs}
 use Rattle.hagerzhang.proofs.moves.outlook.Statement.{statement}
 use Rattle.hagerzhang.proofs.moves.outlook.Tie as tie

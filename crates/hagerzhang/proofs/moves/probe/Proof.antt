@@ -2,7 +2,7 @@
 use mathlib.Core.Path.{sym, ap, _∙_}
 use borrow.Author.Tests.{eq-eqb, ne-eqb, not-true, not-false}
 use lib.Ieee.Scale.{finite}
-use Rattle.hagerzhang.specs.Machine.{probeOf}
+use Rattle.hagerzhang.specs.Moves.{probeOf}
 use borrow.Author.Needs.{needs}
 use Rattle.hagerzhang.proofs.moves.probe.Statement.{statement}
 use Rattle.hagerzhang.proofs.moves.probe.Tie as tie

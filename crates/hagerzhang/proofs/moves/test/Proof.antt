@@ -1,24 +1,24 @@
 -- `hagerzhang::moves::test` meets its contract. Assumes nothing.
 use Rattle.floats.proofs.Branches.{tests}
-use Rattle.hagerzhang.specs.Machine.{testedOf}
+use Rattle.hagerzhang.specs.Moves.{testOf}
 use borrow.Author.Needs.{needs}
 use Rattle.hagerzhang.proofs.moves.test.Statement.{statement}
 use Rattle.hagerzhang.proofs.moves.test.Tie as tie
 
 returns : tie.Need-returns
-unfolding testedOf
+unfolding testOf
 returns c = search (tests, c .attempt .ensures, c .before .before .m .given .1)
 
 returns-2 : tie.Need-returns-2
-unfolding testedOf
+unfolding testOf
 returns-2 c = search (tests, c .probe .ensures, c .before .before .m2 .given .1)
 
 returns-3 : tie.Need-returns-3
-unfolding testedOf
+unfolding testOf
 returns-3 c = search (tests, c .before .m3 .given .1)
 
 returns-4 : tie.Need-returns-4
-unfolding testedOf
+unfolding testOf
 returns-4 c = search (tests, c .enum-told .given .1)
 
 pub test-spec : {M : Type 1} → statement M

@@ -1,8 +1,8 @@
--- `hagerzhang::Kept::iterations` meets its contract. Assumes nothing.
+-- `hagerzhang::state::Kept::iterations` meets its contract. Assumes nothing.
 use Rattle.hagerzhang.specs.Meaning.{keptReport}
 use borrow.Author.Needs.{needs}
-use Rattle.hagerzhang.proofs.Kept.iterations.Statement.{statement}
-use Rattle.hagerzhang.proofs.Kept.iterations.Tie as tie
+use Rattle.hagerzhang.proofs.state.Kept.iterations.Statement.{statement}
+use Rattle.hagerzhang.proofs.state.Kept.iterations.Tie as tie
 
 returns : tie.Need-returns
 unfolding keptReport

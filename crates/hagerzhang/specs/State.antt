@@ -1,0 +1,33 @@
+-- How a state is built: a step is asked, the search is over, and the search with its outcome. Bookkeeping, as all
+-- of specs/ but Meaning.antt.
+use Prim.Native.Nat.{ℕ, _-_}
+use lib.Ieee.{Float}
+use Rattle.runs.specs.declared.Evaluations.{Evaluations}
+use Rattle.runs.specs.declared.Outcome.{Outcome}
+use Rattle.runs.specs.declared.Outcome.the-variants.{Ask}
+use Rattle.runs.specs.Counters.{evaluations}
+use Rattle.hagerzhang_rules.specs.declared.Point.{Point}
+use Rattle.hagerzhang_rules.specs.declared.Setup.{Setup}
+use Rattle.hagerzhang.specs.declared.state.Kept.{Kept}
+use Rattle.hagerzhang.specs.declared.state.Narrowing.{Narrowing}
+use Rattle.hagerzhang.specs.declared.state.Waiting.{Waiting}
+use Rattle.hagerzhang.specs.declared.state.Stage.{Stage}
+use Rattle.hagerzhang.specs.declared.state.Stage.the-variants.{Open, Over}
+use Rattle.hagerzhang.specs.declared.state.Next.{Next}
+use Rattle.hagerzhang.specs.declared.state.Turn.{Turn}
+
+abbrev pub narrowing : Point → Float → Float → ℕ → Narrowing
+narrowing h k d left = record { h = h; k = k; d = d; left = left }
+
+abbrev pub next : Stage → Outcome → Next
+next s o = record { stage = s; outcome = o }
+
+abbrev pub asksOf : Waiting → Float → Next
+asksOf waiting x = next (Open waiting) (Ask x)
+
+abbrev pub endedOf : Kept → Outcome → Next
+endedOf kept o = next (Over kept) o
+
+-- the search with what an answer leads to
+abbrev pub turnedOf : Setup → Evaluations → Next → Turn
+turnedOf s n to = record { search = record { setup = s; evaluations = n; stage = to .stage }; outcome = to .outcome }

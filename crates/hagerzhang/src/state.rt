@@ -1,0 +1,128 @@
+// The state of a search, and its three builders: a step is asked, the search is over, and the search with its outcome.
+
+use hagerzhang_rules::Bracket;
+use hagerzhang_rules::Point;
+use hagerzhang_rules::Setup;
+use refusals::Refusal;
+use runs::Evaluations;
+use runs::Iterations;
+use runs::Outcome;
+ghost use mathlib.Core.Path.{_≡_};
+ghost use Rattle.hagerzhang.specs.State.{asksOf, endedOf, turnedOf};
+
+// What a finished iteration left, or the start: bracket, start point c, best, and how many iterations are finished.
+pub struct Finished {
+    pub bracket: Bracket,
+    pub c: Point,
+    pub best: Point,
+    pub iterations: Iterations,
+}
+
+// What a search that is over keeps. During the first three answers there is no bracket and no best.
+pub enum Kept {
+    NoneYet,
+    Last(Finished),
+}
+
+// The rule of 01 by which a trial is asked.
+pub enum Rule {
+    S1,
+    S4,
+    L2,
+}
+
+pub struct Trial {
+    pub rule: Rule,
+    pub x: f64,
+}
+
+// U3 asked d between h and k, and after this answer `left` more may come.
+pub struct Narrowing {
+    pub h: Point,
+    pub k: f64,
+    pub d: f64,
+    pub left: u32,
+}
+
+// What an iteration asked: the trial's own step, to update a bracket with, or a step of U3.
+pub enum Asked {
+    Update(Bracket),
+    Between(Narrowing),
+}
+
+// The step at which an answer is awaited, if there is one.
+pub enum Due {
+    Awaited(f64),
+    NothingDue,
+}
+
+// What the search waits for: the answers of the start, or one in an iteration.
+pub enum Waiting {
+    Low,
+    High(Point),
+    StartStep(Bracket),
+    Running(Finished, Trial, Asked),
+}
+
+pub enum Stage {
+    Open(Waiting),
+    Over(Kept),
+}
+
+pub struct Search {
+    pub setup: Setup,
+    pub evaluations: Evaluations,
+    pub stage: Stage,
+}
+
+pub struct Turn {
+    pub search: Search,
+    pub outcome: Outcome,
+}
+
+pub enum Started {
+    Began(Turn),
+    NoSearch(Refusal),
+}
+
+// What an answer leads to, before it is put into the search.
+pub(crate) struct Next {
+    pub(crate) stage: Stage,
+    pub(crate) outcome: Outcome,
+}
+
+// The step x is asked.
+pub(crate) fn asks(waiting: Waiting, x: f64) -> Next
+    ensures { λ r. ⌜ r ≡ asksOf waiting x ⌝ }
+{
+    Next {
+        stage: Stage::Open(waiting),
+        outcome: Outcome::Ask(x),
+    }
+}
+
+// The search is over.
+pub(crate) fn ended(kept: Kept, outcome: Outcome) -> Next
+    ensures { λ r. ⌜ r ≡ endedOf kept outcome ⌝ }
+{
+    Next {
+        stage: Stage::Over(kept),
+        outcome,
+    }
+}
+
+// The search with what an answer leads to.
+pub(crate) fn turned(setup: Setup, evaluations: Evaluations, next: Next) -> Turn
+    ensures { λ r. ⌜ r ≡ turnedOf setup evaluations next ⌝ }
+{
+    let stage = next.stage;
+    let outcome = next.outcome;
+    Turn {
+        search: Search {
+            setup,
+            evaluations,
+            stage,
+        },
+        outcome,
+    }
+}
