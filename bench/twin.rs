@@ -109,8 +109,8 @@ impl Search {
         }
         let (asked, stage) = (p.min, Stage::Low);
         Some(Search {
-            p, budget, limit, f0, s0, level, a: O, b: O, c: O, best: O, new_a: O, new_b: O, trial: 0.0, h: O, k: 0.0, left: 0,
-            evaluations: 0, iterations: 0, asked, stage,
+            p, budget, limit, f0, s0, level, a: O, b: O, c: O, best: O, new_a: O, new_b: O, trial: 0.0, h: O, k: 0.0,
+            left: 0, evaluations: 0, iterations: 0, asked, stage,
         })
     }
 
