@@ -12,11 +12,13 @@ def constants():
     """The ranges of the constants and their ends, as starts."""
     conditions = []
     for kind, top in ((ARMIJO, ONE), (GOLDSTEIN, HALF)):
-        conditions += [(kind, c, NAN) for c in [ZERO, SIGN, TINY, SIGN | TINY, below(top), top, above(top), F(0.25), F(-1)] + NOT_FINITE]
+        ends = [ZERO, SIGN, TINY, SIGN | TINY, below(top), top, above(top), F(0.25), F(-1)]
+        conditions += [(kind, c, NAN) for c in ends + NOT_FINITE]
     third = F(0.3)
+    seconds = [ZERO, TINY, below(third), third, above(third), below(ONE), ONE, F(2)]
     for kind in (WOLFE, STRONG):
         for c1 in [ZERO, SIGN, TINY, third, below(below(ONE)), below(ONE), ONE] + NOT_FINITE[:3]:
-            conditions += [(kind, c1, c2) for c2 in [ZERO, TINY, below(third), third, above(third), below(ONE), ONE, F(2)] + NOT_FINITE[:3]]
+            conditions += [(kind, c1, c2) for c2 in seconds + NOT_FINITE[:3]]
     return [backtracks(c, HALF, ONE, ONE, F(-2), 1) for c in conditions]
 
 
@@ -39,11 +41,12 @@ def marked():
 
 
 def rounding(r):
-    """Costs on the edge, on the edge that the other grouping of the product gives, which differs for some, and a float above."""
+    """Costs on the edge, on the edge that the other grouping of the product gives, which differs for some, and a float
+    above."""
     cases = []
     for i in range(80):
-        kind, c = KINDS[i % 4], F(0.125) | r.below(1 << 52)         # in [0.125, 0.25)
-        f0 = r.like() if i < 40 else ZERO                           # a cost of 0 lets each difference of the products show
+        kind, c = KINDS[i % 4], F(0.125) | r.below(1 << 52)     # in [0.125, 0.25)
+        f0 = r.like() if i < 40 else ZERO                       # a cost of 0 lets each difference of the products show
         s0, t = r.like() | SIGN, r.like() & ~SIGN
         edge, other = add(f0, mul(mul(c, t), s0)), add(f0, mul(c, mul(t, s0)))
         s = mul(HALF, s0 if i % 3 else neg(s0))
@@ -54,12 +57,14 @@ def rounding(r):
 
 
 def slopes(r):
-    """Slopes of either sign on strong Wolfe's edge c2*|s0| and a float above it: absolute values, from the smallest to the largest."""
+    """Slopes of either sign on strong Wolfe's edge c2*|s0| and a float above it: absolute values, from the smallest to
+    the largest."""
     cases = []
     for s0 in [ZERO, TINY, SUB, ONE, F(0.1), MAX, r.like() & ~SIGN, r.like() & ~SIGN]:
         edge = mul(F(0.9), s0)
         for sign in (0, SIGN):
-            cases += [tried(FINE[3], ZERO, s0 | sign, ONE, SIGN | MAX, s | flip) for s in (edge, edge + 1) for flip in (0, SIGN)]
+            ends = [s | flip for s in (edge, edge + 1) for flip in (0, SIGN)]
+            cases += [tried(FINE[3], ZERO, s0 | sign, ONE, SIGN | MAX, s) for s in ends]
     return cases
 
 
@@ -77,19 +82,22 @@ def starts():
         ends = [(rho, ONE, 2) for rho in (ZERO, SIGN, TINY, ONE, below(ONE), F(-0.5), F(2))]
         ends += [(HALF, alpha, 2) for alpha in (ZERO, SIGN, TINY, F(-1), MAX)]
         cases += [played(backtracks(c, rho, alpha, ONE, F(-2), n), never, 40) for rho, alpha, n in ends]
-        cases += [played(backtracks(c, HALF, ONE, ONE, F(-2), n), never, 3) for n in (0, 1, 2, 10000, 10001, 4294967295)]
+        for n in (0, 1, 2, 10000, 10001, 4294967295):
+            cases.append(played(backtracks(c, HALF, ONE, ONE, F(-2), n), never, 3))
         cases.append(backtracks((c[0], ONE, ONE), *ok, 5))
     return cases
 
 
 def free():
-    """A cost or slope that is not finite at the first, a middle and the last trial; and steps that shrink to 0, asked like any other."""
+    """A cost or slope that is not finite at the first, a middle and the last trial; and steps that shrink to 0, asked
+    like any other."""
     cases = []
     for c in FINE:
         for at in (0, 2, 4):
             for bad in NOT_FINITE[:3]:
                 for y in ((bad, ZERO), (F(9), bad)):
-                    cases.append(played(backtracks(c, HALF, ONE, ONE, F(-2), 4), lambda x, i: y if i == at else (F(9), ZERO), 40))
+                    reply = lambda x, i: y if i == at else (F(9), ZERO)
+                    cases.append(played(backtracks(c, HALF, ONE, ONE, F(-2), 4), reply, 40))
         cases += [played(backtracks(c, HALF, alpha, ONE, F(-2), n), never, 40) for alpha, n in ((ONE, 1), (TINY, 4))]
     return cases
 

@@ -3,8 +3,8 @@
 
 usage: make_jobs.py FOLDER
 
-FOLDER gets NAME.job and NAME.out. What must be written is worked out from the rules alone, by the models on the floats of exact.py.
-Nothing of the program under test is used.
+FOLDER gets NAME.job and NAME.out. What must be written is worked out from the rules alone, by the models on the floats
+of exact.py. Nothing of the program under test is used.
 """
 import os
 import struct

@@ -1,4 +1,4 @@
-"""What the program `cases` must print for any bytes, by the models alone. docs/FORMATS.md has the format of a case file."""
+"""What the program `cases` must print for any bytes, by the models alone. docs/FORMATS.md has the format."""
 import struct
 
 import model_backtracking

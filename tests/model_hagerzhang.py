@@ -29,7 +29,8 @@ class Refused(Exception):
 
 
 class Search:
-    """`first` is the start's outcome, and `held` the bracket's two points and the best, or None before the start is in."""
+    """`first` is the start's outcome, and `held` the bracket's two points and the best, or None before the start is
+    in."""
 
     def __init__(self, params, f0, s0, b, n):
         self.delta, self.sigma, self.epsilon, self.theta, self.gamma, _, self.low, self.high, self.start = params

@@ -1,6 +1,7 @@
 """The lines that both programs print for outcomes.
 
-An outcome is a pair: "ASK", "STOP wolfe", "STOP approximate", "STOP met" or "LIMIT" with the step's bits, or "REFUSED" with the number.
+An outcome is a pair: "ASK", "STOP wolfe", "STOP approximate", "STOP met" or "LIMIT" with the step's bits, or "REFUSED"
+with the number.
 """
 
 
