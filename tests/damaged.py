@@ -21,13 +21,14 @@ import time
 
 import make_cases
 import make_jobs
-from case_file import answer, backtracks, dot, field, hager_zhang, params, played, point, words
-from exact import F, NAN, Random
-from lists_backtracking import FINE
+from case_file import answer, dot, field, hager_zhang, params, played, point, words
+from exact import NAN, F, Random
+from lists_backtracking import FINE, start
 from lists_hagerzhang import endings
 from model_cases import case_lines, expected
 from model_curves import curve
 from model_jobs import lines_of
+from model_lines import printed
 
 LIMIT_SECONDS = 10
 MODEL_STEPS = 300
@@ -57,7 +58,7 @@ def cases():
         endings()[2],
         hager_zhang(params(), F(1), NAN, 1, 1) + answer(0, 0),
         dot([F(1), F(2)], [F(3), F(4)]),
-        played(backtracks(FINE[2], F(0.5), F(8), F(1), F(-2), 4), lambda x, i: curve(1, x), 9, 2),
+        played(start(FINE[2], 4, alpha=F(8)), lambda x, i: curve(1, x), 9, 2),
         point([F(1)], F(2), [F(3)], 1),
         point([], F(2), [F(3)], 2),
     ]
@@ -65,7 +66,7 @@ def cases():
 
 def malformed():
     """Files that end malformed, one way each; what is before is well-formed."""
-    hz, bt = endings()[0], backtracks(FINE[0], F(0.5), F(1), F(1), F(-2), 3)
+    hz, bt = endings()[0], start(FINE[0], 3)
     d, p, y = dot([F(1)], [F(2)]), point([F(1)], F(2), [F(3)], 1), answer(F(1), F(1))
     long = [F(1)] * 512
     ends = [field(0, b""), field(1, b"\1"), field(16, words(0, 0)), field(18, words(0, 0))]
@@ -117,7 +118,7 @@ class Judge:
             return out == expected(data, self.lines_of), True
         lines = list(itertools.islice(lines_of(data), MODEL_STEPS))
         whole = not lines[-1].startswith("ASK")
-        told = "".join(line + "\n" for line in lines).encode()
+        told = printed(lines)
         return (out == told if whole else out.startswith(told)), whole
 
     def judge(self, name, data):

@@ -28,6 +28,9 @@ def F(x):
     return bits(float(x))
 
 
+ZERO, HALF, ONE, TWO = F(0), F(0.5), F(1), F(2)
+
+
 def flt(b):
     return struct.unpack(">d", struct.pack(">Q", b))[0]
 

@@ -1,11 +1,17 @@
 """Cases of the conditions and of backtracking: constants, edges, starts, free answers, curves."""
 from case_file import answer, backtracks, cuts, played
-from exact import F, INF, MAX, NAN, NOT_FINITE, SIGN, SUB, TINY, Random, above, add, below, mul, neg
-from model_backtracking import ARMIJO, GOLDSTEIN, HALF, KINDS, ONE, STRONG, WOLFE, ZERO
+from exact import (HALF, INF, MAX, NAN, NOT_FINITE, ONE, SIGN, SUB, TINY, ZERO, F, Random, above, add, below, mul,
+                   neg)
+from model_backtracking import ARMIJO, GOLDSTEIN, KINDS, STRONG, WOLFE
 from model_curves import NUMBERS, curve
 
 FINE = [(ARMIJO, F(0.1), NAN), (GOLDSTEIN, F(0.25), INF), (WOLFE, F(0.1), F(0.9)), (STRONG, F(0.1), F(0.9))]
 never = lambda x, i: (F(1e30), ZERO)
+
+
+def start(c, n, rho=HALF, alpha=ONE):
+    """Of a search with f0 = 1 and s0 = -2."""
+    return backtracks(c, rho, alpha, ONE, F(-2), n)
 
 
 def constants():
@@ -19,7 +25,7 @@ def constants():
     for kind in (WOLFE, STRONG):
         for c1 in [ZERO, SIGN, TINY, third, below(below(ONE)), below(ONE), ONE] + NOT_FINITE[:3]:
             conditions += [(kind, c1, c2) for c2 in seconds + NOT_FINITE[:3]]
-    return [backtracks(c, HALF, ONE, ONE, F(-2), 1) for c in conditions]
+    return [start(c, 1) for c in conditions]
 
 
 def tried(c, f0, s0, t, f, s):
@@ -29,14 +35,14 @@ def tried(c, f0, s0, t, f, s):
 
 def marked():
     """The marked sums M10, M11 and M12, and costs and slopes on the very edge."""
-    start, cases = (ONE, F(-2), ONE), []
+    at, cases = (ONE, F(-2), ONE), []
     for f in (0, 0.25, -0.5, 0.5, -0.75, 0.75):
         for s in (ZERO, NAN):
-            cases.append(tried((ARMIJO, HALF, ZERO), *start, F(f), s))
-            cases.append(tried((GOLDSTEIN, F(0.25), ZERO), *start, F(f), s))
+            cases.append(tried((ARMIJO, HALF, ZERO), *at, F(f), s))
+            cases.append(tried((GOLDSTEIN, F(0.25), ZERO), *at, F(f), s))
     for kind in (WOLFE, STRONG):
         for f in (0.5, 0.75):
-            cases += [tried((kind, F(0.25), HALF), *start, F(f), F(s)) for s in (1.5, 1, -1, -1.5, 0, -0.0, 2)]
+            cases += [tried((kind, F(0.25), HALF), *at, F(f), F(s)) for s in (1.5, 1, -1, -1.5, 0, -0.0, 2)]
     return cases
 
 
@@ -79,11 +85,10 @@ def starts():
                 if j < 3:
                     cases.append(backtracks(c, *p, 0))
             cases += [backtracks((c[0], bad, HALF), *ok, 5), played(backtracks((c[0], F(0.2), bad), *ok, 2), never, 40)]
-        ends = [(rho, ONE, 2) for rho in (ZERO, SIGN, TINY, ONE, below(ONE), F(-0.5), F(2))]
-        ends += [(HALF, alpha, 2) for alpha in (ZERO, SIGN, TINY, F(-1), MAX)]
-        cases += [played(backtracks(c, rho, alpha, ONE, F(-2), n), never, 40) for rho, alpha, n in ends]
-        for n in (0, 1, 2, 10000, 10001, 4294967295):
-            cases.append(played(backtracks(c, HALF, ONE, ONE, F(-2), n), never, 3))
+        ends = [start(c, 2, rho=rho) for rho in (ZERO, SIGN, TINY, ONE, below(ONE), F(-0.5), F(2))]
+        ends += [start(c, 2, alpha=alpha) for alpha in (ZERO, SIGN, TINY, F(-1), MAX)]
+        cases += [played(end, never, 40) for end in ends]
+        cases += [played(start(c, n), never, 3) for n in (0, 1, 2, 10000, 10001, 4294967295)]
         cases.append(backtracks((c[0], ONE, ONE), *ok, 5))
     return cases
 
@@ -97,8 +102,8 @@ def free():
             for bad in NOT_FINITE[:3]:
                 for y in ((bad, ZERO), (F(9), bad)):
                     reply = lambda x, i: y if i == at else (F(9), ZERO)
-                    cases.append(played(backtracks(c, HALF, ONE, ONE, F(-2), 4), reply, 40))
-        cases += [played(backtracks(c, HALF, alpha, ONE, F(-2), n), never, 40) for alpha, n in ((ONE, 1), (TINY, 4))]
+                    cases.append(played(start(c, 4), reply, 40))
+        cases += [played(start(c, 1), never, 40), played(start(c, 4, alpha=TINY), never, 40)]
     return cases
 
 

@@ -1,10 +1,10 @@
 """Cases of Hager-Zhang: starts, every ending, curves, free answers, U3 runs, secants, and the edges of the rules."""
 from case_file import answer, cuts, hager_zhang, params, played
-from exact import F, MAX, NOT_FINITE, SIGN, TINY, Random, above, absolute, add, below, is_finite, mul, sub
+from exact import (HALF, MAX, NOT_FINITE, ONE, SIGN, TINY, TWO, ZERO, F, Random, above, absolute, add, below, is_finite,
+                   mul, sub)
 from model_curves import NUMBERS, curve
 from model_hagerzhang import EPS
 
-ZERO, HALF, ONE, TWO = F(0), F(0.5), F(1), F(2)
 SMALL = [F(x) for x in (-2, -1, -0.5, -0.0, 0, 0.5, 1, 2, 3)]
 
 # each range at its ends

@@ -1,8 +1,7 @@
 """Cases of dot and point: lengths, numbers that are not finite, overflow, zeros, subnormals, and numbers at random."""
 from case_file import dot, point
-from exact import F, INF, MAX, NAN, NORM, NOT_FINITE, SIGN, SUB, TINY, Random
+from exact import HALF, INF, MAX, NAN, NORM, NOT_FINITE, ONE, SIGN, SUB, TINY, TWO, F, Random
 
-ONE, TWO, HALF = F(1), F(2), F(0.5)
 ZEROS = [0, SIGN]
 
 

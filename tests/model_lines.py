@@ -20,3 +20,8 @@ def line(outcome, search):
     if word == "ASK":
         return "ASK " + number(what)
     return "%s %s %s" % (word, number(what), counts(search))
+
+
+def printed(lines):
+    """The lines as the bytes that are written."""
+    return "".join(text + "\n" for text in lines).encode()

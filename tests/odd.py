@@ -17,7 +17,9 @@ its slope, and S1 asks secant(a, b) = 8/8 = 1.
 import sys
 
 import case_file
-from exact import bits
+from exact import F
+from model_backtracking import ARMIJO, GOLDSTEIN, STRONG, WOLFE
+from model_lines import printed
 
 INF = float("inf")
 NAN = float("nan")
@@ -26,11 +28,10 @@ HUGE = 2.0 ** 1023
 TINY = 2.0 ** -1074
 START = [(1, -2), (9, 6), (1, -2)]
 NONE = "BRACKET none | BEST none | COUNTS evaluations 0 iterations 0"
-ARMIJO, GOLDSTEIN, WOLFE, STRONG = 1, 2, 3, 4
 
 
 def floats(*xs):
-    return [bits(float(x)) for x in xs]
+    return [F(x) for x in xs]
 
 
 def hz(delta=0.25, sigma=0.5, epsilon=0.0, theta=0.5, gamma=0.5, eta=0.01, low=0.0, high=4.0, start=1.0,
@@ -298,11 +299,11 @@ def written(lines):
     """The lines as they are printed: a float's zeros filled in."""
     filled = lambda word: word[:-1].ljust(16, "0") if word.endswith(".") else word
     whole = [" ".join(map(filled, line.split())) for line in lines.split("|") if line.strip()]
-    return "".join(line + "\n" for line in whole)
+    return printed(whole)
 
 
 def main(cases, expected):
-    with open(cases, "wb") as cases, open(expected, "w", newline="\n") as expected:
+    with open(cases, "wb") as cases, open(expected, "wb") as expected:
         for name, reason, first, answers, lines, closing in CASES:
             cases.write(first + b"".join(case_file.answer(*floats(*y)) for y in answers))
             expected.write(written(lines) + written(closing))
