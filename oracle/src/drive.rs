@@ -218,8 +218,8 @@ impl<L> Look for BacktrackingSolver<L> {
     }
 }
 
-/// argmin's executor: init; then terminate, the iteration limit and next_iter in turn. Its target cost is minus infinity
-/// unless one is set, and no finite cost reaches that.
+/// argmin's executor: init; then terminate, the iteration limit and next_iter in turn. Its target cost is minus
+/// infinity unless one is set, and no finite cost reaches that.
 fn execute<'a, S>(mut solver: S, plant: Plant<'a>, (f0, s0, limit): (f64, f64, u32)) -> Run
 where
     S: Solver<Plant<'a>, State> + Look,
