@@ -1,6 +1,10 @@
 // Hager-Zhang in plain Rust, in place, with the same tests and the same answers: what crates/bench is timed against.
 //   rustc -C opt-level=3 bench/twin.rs && ./twin [any argument: 50 million answers instead of a thousand]
 
+mod curves;
+
+use curves::{curve, slope, turns, value, Curve};
+
 #[derive(Clone, Copy)]
 struct Point {
     x: f64,
@@ -105,8 +109,8 @@ impl Search {
         }
         let (asked, stage) = (p.min, Stage::Low);
         Some(Search {
-            p, budget, limit, f0, s0, level, a: O, b: O, c: O, best: O, new_a: O, new_b: O, trial: 0.0, h: O, k: 0.0, left: 0,
-            evaluations: 0, iterations: 0, asked, stage,
+            p, budget, limit, f0, s0, level, a: O, b: O, c: O, best: O, new_a: O, new_b: O, trial: 0.0, h: O, k: 0.0,
+            left: 0, evaluations: 0, iterations: 0, asked, stage,
         })
     }
 
@@ -262,27 +266,8 @@ impl Search {
     }
 }
 
-const TABLE: [[i8; 5]; 8] = [
-    [1, -2, 1, 0, 0],
-    [9, -6, 1, 0, 0],
-    [0, -1, 0, 0, 0],
-    [0, 0, 0, 0, 0],
-    [0, -8, 0, 0, 1],
-    [2, -3, 0, 1, 0],
-    [5, -4, -2, 0, 1],
-    [0, 1, -1, 0, 0],
-];
-
-fn value(c: &[f64; 5], x: f64) -> f64 {
-    (((c[4] * x + c[3]) * x + c[2]) * x + c[1]) * x + c[0]
-}
-
-fn slope(c: &[f64; 5], x: f64) -> f64 {
-    ((4.0 * c[4] * x + 3.0 * c[3]) * x + 2.0 * c[2]) * x + c[1]
-}
-
-fn begin(n: usize) -> (Search, [f64; 5]) {
-    let c = TABLE[n].map(f64::from);
+fn begin(n: usize) -> (Search, Curve) {
+    let c = curve(n);
     let p = Params {
         delta: 0.1, sigma: 0.9, epsilon: 1e-6, theta: 0.5, gamma: 0.66, eta: 0.01, min: 0.0, max: 64.0, start: 0.7,
     };
@@ -290,11 +275,10 @@ fn begin(n: usize) -> (Search, [f64; 5]) {
 }
 
 fn main() {
-    let turns: u64 = if std::env::args().count() > 1 { 50_000_000 } else { 1000 };
     let mut n = 0;
     let (mut s, mut c) = begin(n);
     let mut sum = 0.0;
-    for _ in 0..turns {
+    for _ in 0..turns() {
         let end = match s.answer(value(&c, s.asked), slope(&c, s.asked)) {
             Outcome::Ask(x) => {
                 sum += x;
@@ -304,7 +288,7 @@ fn main() {
             Outcome::Refused(_) => 1.0,
         };
         sum += end;
-        n = (n + 1) % 8;
+        n += 1;
         (s, c) = begin(n);
     }
     println!("{:016x}", sum.to_bits());

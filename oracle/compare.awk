@@ -85,7 +85,9 @@ BEGIN {
             printf "%-14s %9d %9d %14d\n", order[i], of_kind[order[i]], within_kind[order[i]], wrong_kind[order[i]]
     }
     line = "ASK: " asks + 0
-    count = split("STOP wolfe;STOP approximate;STOP met;LIMIT;REFUSED 2;REFUSED 3;REFUSED 4;REFUSED 5;REFUSED 6;REFUSED 7;REFUSED 8", names, ";")
+    count = split("STOP wolfe;STOP approximate;STOP met;LIMIT", names, ";")
+    for (i = 2; i <= 8; i++)
+        names[++count] = "REFUSED " i
     for (i = 1; i <= count; i++)
         line = line "; " names[i] ": " told[names[i]] + 0
     print line

@@ -41,7 +41,8 @@ def point(x0, alpha, d, k):
 
 
 def played(start, reply, most, extra=1):
-    """A search: the start, the answers that reply(step, i) gives while a step is asked, and `extra` more; `most` at most."""
+    """A search: the start, the answers that reply(step, i) gives while a step is asked, and `extra` more; `most` at
+    most."""
     case, s = start, search_of(start[0], start[3:])
     outcome = s.first
     for i in range(most):

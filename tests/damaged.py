@@ -5,9 +5,10 @@ usage: damaged.py cases|search PROGRAM [--quick]
 
 Quick, it tries four other values of each byte instead of all 255, and fewer edits.
 
-Each input must be answered within the time limit, with exit status 0 and output whose every line is of the known kinds. It is also
-compared with what the independent models say must be printed: for cases model_cases.py, for search (jobs) model_jobs.py, which is
-stopped after some hundred steps. Prints how many inputs there were, and ends with status 1 at the first that is not answered so.
+Each input must be answered within the time limit, with exit status 0 and output whose every line is of the known kinds.
+It is also compared with what the independent models say must be printed: for cases model_cases.py, for search (jobs)
+model_jobs.py, which is stopped after some hundred steps. Prints how many inputs there were, and ends with status 1 at
+the first that is not answered so.
 """
 import functools
 import itertools
@@ -20,13 +21,14 @@ import time
 
 import make_cases
 import make_jobs
-from case_file import answer, backtracks, dot, field, hager_zhang, params, played, point, words
-from exact import F, NAN, Random
-from lists_backtracking import FINE
+from case_file import answer, dot, field, hager_zhang, params, played, point, words
+from exact import NAN, F, Random
+from lists_backtracking import FINE, start
 from lists_hagerzhang import endings
 from model_cases import case_lines, expected
 from model_curves import curve
 from model_jobs import lines_of
+from model_lines import printed
 
 LIMIT_SECONDS = 10
 MODEL_STEPS = 300
@@ -34,7 +36,10 @@ MODEL_STEPS = 300
 NUMBER = "[0-9A-F]{16}"
 COUNTS = "evaluations [0-9]{1,10} iterations [0-9]{1,10}"
 OUTCOME = "ASK {n}|STOP (?:wolfe|approximate|met) {n} {c}|LIMIT {n} {c}|REFUSED [1-9]".format(n=NUMBER, c=COUNTS)
-CASE_LINE = "CASE [1-9][0-9]*|{o}|BRACKET (?:none|{n}(?: {n}){{5}})|BEST (?:none|{n} {n} {n})|COUNTS {c}|VALUE {n}|POINT|OUT(?: {n}){{0,511}}|MALFORMED at [0-9]+".format(o=OUTCOME, n=NUMBER, c=COUNTS)
+CASE_LINE = "|".join((
+    "CASE [1-9][0-9]*", "{o}", "BRACKET (?:none|{n}(?: {n}){{5}})", "BEST (?:none|{n} {n} {n})", "COUNTS {c}",
+    "VALUE {n}", "POINT", "OUT(?: {n}){{0,511}}", "MALFORMED at [0-9]+",
+)).format(o=OUTCOME, n=NUMBER, c=COUNTS)
 
 
 # ---- the files that are damaged
@@ -42,25 +47,36 @@ CASE_LINE = "CASE [1-9][0-9]*|{o}|BRACKET (?:none|{n}(?: {n}){{5}})|BEST (?:none
 def jobs():
     """The sample, a job for every ending and refusal, and some without tag 2."""
     stored = make_jobs.stored()
-    return [stored[name] for name in ("wolfe_sample", "wolfe_every_field", "approximate", "limit", "2_answer", "4_epsilon_k", "5", "6", "7", "3_curve_9")]
+    ends = "wolfe_sample wolfe_every_field approximate limit 2_answer 4_epsilon_k 5 6 7 3_curve_9"
+    return [stored[name] for name in ends.split()]
 
 
 def cases():
     """A few short cases with every kind of field and line."""
-    return [endings()[0], endings()[2], hager_zhang(params(), F(1), NAN, 1, 1) + answer(0, 0), dot([F(1), F(2)], [F(3), F(4)]),
-            played(backtracks(FINE[2], F(0.5), F(8), F(1), F(-2), 4), lambda x, i: curve(1, x), 9, 2), point([F(1)], F(2), [F(3)], 1), point([], F(2), [F(3)], 2)]
+    return [
+        endings()[0],
+        endings()[2],
+        hager_zhang(params(), F(1), NAN, 1, 1) + answer(0, 0),
+        dot([F(1), F(2)], [F(3), F(4)]),
+        played(start(FINE[2], 4, alpha=F(8)), lambda x, i: curve(1, x), 9, 2),
+        point([F(1)], F(2), [F(3)], 1),
+        point([], F(2), [F(3)], 2),
+    ]
 
 
 def malformed():
     """Files that end malformed, one way each; what is before is well-formed."""
-    hz, bt = endings()[0], backtracks(FINE[0], F(0.5), F(1), F(1), F(-2), 3)
+    hz, bt = endings()[0], start(FINE[0], 3)
     d, p, y = dot([F(1)], [F(2)]), point([F(1)], F(2), [F(3)], 1), answer(F(1), F(1))
     long = [F(1)] * 512
-    ends = [field(0, b""), field(1, b"\1"), field(16, words(0, 0)), field(18, words(0, 0)), field(31, b""), field(36, b""), field(255, b"")]
+    ends = [field(0, b""), field(1, b"\1"), field(16, words(0, 0)), field(18, words(0, 0))]
+    ends += [field(31, b""), field(36, b""), field(255, b"")]
     for tag, size in ((17, 16), (32, 96), (33, 53), (34, 4), (35, 14)):
         ends += [field(tag, bytes(n)) for n in (0, 1, size - 1, size + 1, size + 8, 256 + size, 65535)]
-    ends += [d[:3] + b"\0\2" + d[5:], p[:3] + b"\0\2" + p[5:], dot([0], long), dot(long, [0]), point(long, 0, [0], 1), point([0], 0, long, 1), point([0], 0, [0], 512)]
-    ends += [field(34, struct.pack(">HH", 65535, 1) + bytes(8)), field(35, struct.pack(">HHH", 1, 1, 65535) + bytes(24))]
+    ends += [d[:3] + b"\0\2" + d[5:], p[:3] + b"\0\2" + p[5:], dot([0], long), dot(long, [0])]
+    ends += [point(long, 0, [0], 1), point([0], 0, long, 1), point([0], 0, [0], 512)]
+    ends += [field(34, struct.pack(">HH", 65535, 1) + bytes(8))]
+    ends += [field(35, struct.pack(">HHH", 1, 1, 65535) + bytes(24))]
     ends += [bt[:3] + bytes([k]) + bt[4:] for k in (0, 5, 255)]
     ends += [y[:-1], y[:2], y[:1], hz[:98], bt[:55], d[:-1], p[:-1], dot(long[:511], long[:511])[:-1]]
     files = [before + e for before in (b"", hz, bt, d) for e in ends]
@@ -79,13 +95,16 @@ class Judge:
     def fail(self, data, why, out=b""):
         with tempfile.NamedTemporaryFile(prefix="damaged-", delete=False) as f:
             f.write(data)
-        print("damaged: %s: %s\nthe input, %d bytes, is kept in %s\nits output ends with: %r" % (self.program, why, len(data), f.name, out[-400:]))
+        print("damaged: %s: %s" % (self.program, why))
+        print("the input, %d bytes, is kept in %s" % (len(data), f.name))
+        print("its output ends with: %r" % out[-400:])
         sys.exit(1)
 
     def answer(self, data):
         before = time.monotonic()
         try:
-            r = subprocess.run([self.program], input=data, stdout=subprocess.PIPE, stderr=subprocess.STDOUT, timeout=LIMIT_SECONDS)
+            r = subprocess.run([self.program], input=data, stdout=subprocess.PIPE, stderr=subprocess.STDOUT,
+                               timeout=LIMIT_SECONDS)
         except subprocess.TimeoutExpired:
             self.fail(data, "no answer within %d seconds" % LIMIT_SECONDS)
         self.slowest = max(self.slowest, time.monotonic() - before)
@@ -99,7 +118,7 @@ class Judge:
             return out == expected(data, self.lines_of), True
         lines = list(itertools.islice(lines_of(data), MODEL_STEPS))
         whole = not lines[-1].startswith("ASK")
-        told = "".join(line + "\n" for line in lines).encode()
+        told = printed(lines)
         return (out == told if whole else out.startswith(told)), whole
 
     def judge(self, name, data):

@@ -1,8 +1,8 @@
 """f64 from first principles, for the models and the lists of tests.
 
-A float is its 64 bits. Every operation is formed exactly, as a fraction, and rounded once to the nearest f64, ties to even;
-beside it Python's own float does the same operation, and the run breaks off where the two differ in a bit. Any NaN is
-7FF8000000000000.
+A float is its 64 bits. Every operation is formed exactly, as a fraction, and rounded once to the nearest f64, ties to
+even; beside it Python's own float does the same operation, and the run breaks off where the two differ in a bit. Any
+NaN is 7FF8000000000000.
 """
 import struct
 from fractions import Fraction
@@ -14,7 +14,8 @@ MAX = 0x7FEFFFFFFFFFFFFF
 TINY = 1                      # the smallest subnormal
 SUB = 0x000FFFFFFFFFFFFF      # the largest subnormal
 NORM = 0x0010000000000000     # the smallest normal
-NOT_FINITE = [NAN, INF, SIGN | INF, INF + 1, (1 << 64) - 1]      # among them a signalling NaN and one with every bit set
+# among them a signalling NaN and one with every bit set
+NOT_FINITE = [NAN, INF, SIGN | INF, INF + 1, (1 << 64) - 1]
 
 
 def bits(x):
@@ -25,6 +26,9 @@ def bits(x):
 def F(x):
     """The pattern of a Python number."""
     return bits(float(x))
+
+
+ZERO, HALF, ONE, TWO = F(0), F(0.5), F(1), F(2)
 
 
 def flt(b):

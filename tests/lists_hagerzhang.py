@@ -1,26 +1,30 @@
-"""Cases of Hager-Zhang: starts, every ending, curves, free answers, U3 runs, secants, and the very edges of the rules."""
+"""Cases of Hager-Zhang: starts, every ending, curves, free answers, U3 runs, secants, and the edges of the rules."""
 from case_file import answer, cuts, hager_zhang, params, played
-from exact import F, MAX, NOT_FINITE, SIGN, TINY, Random, above, absolute, add, below, is_finite, mul, sub
+from exact import (HALF, MAX, NOT_FINITE, ONE, SIGN, TINY, TWO, ZERO, F, Random, above, absolute, add, below, is_finite,
+                   mul, sub)
 from model_curves import NUMBERS, curve
 from model_hagerzhang import EPS
 
-ZERO, HALF, ONE, TWO = F(0), F(0.5), F(1), F(2)
 SMALL = [F(x) for x in (-2, -1, -0.5, -0.0, 0, 0.5, 1, 2, 3)]
 
 # each range at its ends
 RANGES = [
-    dict(delta=ZERO), dict(delta=TINY, sigma=TINY), dict(delta=ONE, sigma=ONE), dict(delta=F(0.9)), dict(delta=above(F(0.9))), dict(delta=HALF),
-    dict(sigma=below(ONE)), dict(sigma=ONE), dict(epsilon=ZERO), dict(epsilon=SIGN), dict(epsilon=SIGN | TINY), dict(epsilon=MAX),
-    dict(theta=ZERO), dict(theta=ONE), dict(theta=below(ONE)), dict(gamma=ZERO), dict(gamma=ONE), dict(gamma=below(ONE)), dict(eta=ZERO), dict(eta=TINY),
-    dict(low=SIGN), dict(low=SIGN, high=ZERO), dict(low=SIGN | TINY), dict(low=ONE, high=ONE), dict(low=ONE, high=above(ONE)),
-    dict(first=F(-5)), dict(first=F(1e300)),
+    dict(delta=ZERO), dict(delta=TINY, sigma=TINY), dict(delta=ONE, sigma=ONE), dict(delta=F(0.9)),
+    dict(delta=above(F(0.9))), dict(delta=HALF), dict(sigma=below(ONE)), dict(sigma=ONE),
+    dict(epsilon=ZERO), dict(epsilon=SIGN), dict(epsilon=SIGN | TINY), dict(epsilon=MAX),
+    dict(theta=ZERO), dict(theta=ONE), dict(theta=below(ONE)),
+    dict(gamma=ZERO), dict(gamma=ONE), dict(gamma=below(ONE)), dict(eta=ZERO), dict(eta=TINY),
+    dict(low=SIGN), dict(low=SIGN, high=ZERO), dict(low=SIGN | TINY), dict(low=ONE, high=ONE),
+    dict(low=ONE, high=above(ONE)), dict(first=F(-5)), dict(first=F(1e300)),
 ]
-LEVELS = [(MAX, ONE), (MAX, ZERO), (SIGN | MAX, ONE), (SIGN | MAX, TWO)]      # f0 and epsilon: epsilon_k or L overflows, or does not
+# f0 and epsilon: epsilon_k or L overflows, or does not
+LEVELS = [(MAX, ONE), (MAX, ZERO), (SIGN | MAX, ONE), (SIGN | MAX, TWO)]
 COUNTS = [(0, 1), (1, 0), (1, 1), (1000, 10000), (1001, 1), (1, 10001), (4294967295, 1), (1, 4294967295), (16777216, 1)]
 
 
 def starts():
-    """Every number not finite in turn, half of them with B out of range too, as 2 goes before 3; every range at its ends."""
+    """Every number not finite in turn, half of them with B out of range too, as 2 goes before 3; every range at its
+    ends."""
     cases, reply = [], answer(ONE, ONE)
     for i in range(11):
         for j, bad in enumerate(NOT_FINITE):
@@ -63,8 +67,9 @@ def free(r, count):
     """Answers that are any small numbers, whatever the step; in every third search one is not finite."""
     one_of, cases = lambda *numbers: numbers[r.below(len(numbers))], []
     for i in range(count):
-        p = params(low=ZERO, high=F(8), first=one_of(*SMALL), theta=one_of(HALF, F(0.25), F(0.9)), gamma=one_of(F(0.66), F(0.1), F(0.9)),
-                   epsilon=one_of(ZERO, F(0.25)), sigma=one_of(F(0.9), F(0.1)))
+        p = params(low=ZERO, high=F(8), first=one_of(*SMALL), theta=one_of(HALF, F(0.25), F(0.9)),
+                   gamma=one_of(F(0.66), F(0.1), F(0.9)), epsilon=one_of(ZERO, F(0.25)),
+                   sigma=one_of(F(0.9), F(0.1)))
         broken, bad, which = r.below(14) if i % 3 == 0 else -1, one_of(*NOT_FINITE), r.below(2)
 
         def reply(x, j):
@@ -81,10 +86,16 @@ def deep():
     """Falling slopes with costs above L: U3 runs to the budget, and in a bracket of a few floats to the stall."""
     first = [(ONE, F(-1)), (F(9), ONE), (F(5), F(-1))]
     reply = lambda x, j: first[j] if j < 3 else (F(9), F(-1))
-    narrow = [(low, low + floats, F(theta)) for low in (F(1.5), F(1.7)) for floats in (2, 9) for theta in (0.1, 0.5, 0.9)]
-    narrow.append((0x3FFC258A95E70F02, 0x3FFC258A95E70F04, 0x3FD9B5582E5AC89D))       # the next step comes out past the high end
+    thetas = (F(0.1), HALF, F(0.9))
+    narrow = [(low, low + floats, theta) for low in (F(1.5), F(1.7)) for floats in (2, 9) for theta in thetas]
+    # the next step comes out past the high end
+    narrow.append((0x3FFC258A95E70F02, 0x3FFC258A95E70F04, 0x3FD9B5582E5AC89D))
     runs = [(b, ZERO, F(8), HALF) for b in (1, 2, 7, 60)] + [(100, *bounds) for bounds in narrow]
-    return [played(hager_zhang(params(low=low, high=high, theta=theta, first=TWO), ONE, F(-1), b, 5), reply, 66) for b, low, high, theta in runs]
+    cases = []
+    for b, low, high, theta in runs:
+        start = hager_zhang(params(low=low, high=high, theta=theta, first=TWO), ONE, F(-1), b, 5)
+        cases.append(played(start, reply, 66))
+    return cases
 
 
 def around_level(r, count):
@@ -96,7 +107,8 @@ def around_level(r, count):
         costs = [level, above(level), below(level), F(9)]
         first = [(F(9), F(-1)), (F(9), ONE), (F(9), F(-1))]
         reply = lambda x, j: first[j] if j < 3 else (costs[r.below(4)], slopes[r.below(7)])
-        cases.append(played(hager_zhang(params(low=ZERO, high=F(8), first=TWO, epsilon=F(0.25)), f0, F(-1), 4, 2), reply, 14))
+        p = params(low=ZERO, high=F(8), first=TWO, epsilon=F(0.25))
+        cases.append(played(hager_zhang(p, f0, F(-1), 4, 2), reply, 14))
     return cases
 
 
@@ -108,7 +120,8 @@ def verdicts(r, count):
         steep, flat, level = mul(HALF, s0), mul(sub(mul(TWO, delta), ONE), s0), F(1.25)
         edge, other = mul(mul(delta, x), s0), mul(delta, mul(x, s0))
         tried = [(ZERO, f, steep) for f in sorted({edge, other, above(edge)})] + [(ZERO, edge, below(steep))]
-        tried += [(ONE, level, flat), (ONE, above(level), flat), (ONE, level, above(flat)), (ONE, level, steep), (ONE, level, below(steep))]
+        tried += [(ONE, level, flat), (ONE, above(level), flat), (ONE, level, above(flat))]
+        tried += [(ONE, level, steep), (ONE, level, below(steep))]
         for f0, f, g in tried:
             start = hager_zhang(params(delta=delta, sigma=HALF, epsilon=F(0.25), low=ZERO, first=x), f0, s0, 9, 9)
             cases.append(start + answer(F(1e30), F(-1)) + answer(F(1e30), ONE) + answer(f, g))
@@ -118,18 +131,21 @@ def verdicts(r, count):
 def secant(p, q, *later, **changed):
     """The fourth question is the secant of p and q, each a step and a slope.
 
-    With f0 = 0 and s0 = -1 a cost of 1 at the bounds and the start step meets neither verdict. An answer to the secant within the
-    bounds brings another one (S4): of the high bound and it where its slope is not negative, else of the low bound and it.
+    With f0 = 0 and s0 = -1 a cost of 1 at the bounds and the start step meets neither verdict. An answer to the secant
+    within the bounds brings another one (S4): of the high bound and it where its slope is not negative, else of the low
+    bound and it.
     """
+    start = hager_zhang(params(low=p[0], high=q[0], **changed), ZERO, F(-1), 100, 100)
     replies = [(ONE, p[1]), (ONE, q[1]), (ONE, ONE), *later]
-    return hager_zhang(params(low=p[0], high=q[0], **changed), ZERO, F(-1), 100, 100) + b"".join(answer(*y) for y in replies)
+    return start + b"".join(answer(*y) for y in replies)
 
 
 def secants(r):
-    """Secants of small whole numbers, exact where they divide, and 0/0; and of numbers at random, where every operation rounds."""
-    cases = []
-    for p, q in (((0, -2), (4, 6)), ((0, -1), (1, 1)), ((1, -3), (5, 1)), ((2, 8), (4, 4)), ((1, 1), (3, -3)), ((0, 0), (1, 0)), ((1, 0), (2, 0)), ((0, -1), (3, 0)), ((-0.0, 1), (3, 0))):
-        cases.append(secant(tuple(map(F, p)), tuple(map(F, q))))
+    """Secants of small whole numbers, exact where they divide, and 0/0; and of numbers at random, where every operation
+    rounds."""
+    whole = [((0, -2), (4, 6)), ((0, -1), (1, 1)), ((1, -3), (5, 1)), ((2, 8), (4, 4)), ((1, 1), (3, -3))]
+    whole += [((0, 0), (1, 0)), ((1, 0), (2, 0)), ((0, -1), (3, 0)), ((-0.0, 1), (3, 0))]
+    cases = [secant(tuple(map(F, p)), tuple(map(F, q))) for p, q in whole]
     finite = lambda: next(w for w in iter(r.word, None) if is_finite(w))
     for i in range(30):
         pick = r.like if i % 3 else finite

@@ -1,8 +1,7 @@
 """Cases of dot and point: lengths, numbers that are not finite, overflow, zeros, subnormals, and numbers at random."""
 from case_file import dot, point
-from exact import F, INF, MAX, NAN, NORM, NOT_FINITE, SIGN, SUB, TINY, Random
+from exact import HALF, INF, MAX, NAN, NORM, NOT_FINITE, ONE, SIGN, SUB, TINY, TWO, F, Random
 
-ONE, TWO, HALF = F(1), F(2), F(0.5)
 ZEROS = [0, SIGN]
 
 
@@ -10,7 +9,8 @@ def lengths(r):
     """Equal and differing lengths around the ends of what is taken; the longest that a case file can hold."""
     some = lambda n: [r.like() for _ in range(n)]
     same = (0, 1, 2, 7, 256, 257, 511)
-    two = [(n, n) for n in (*same, 255)] + [(0, 1), (1, 0), (1, 2), (2, 1), (3, 0), (0, 3), (255, 256), (257, 256), (1, 511)]
+    two = [(n, n) for n in (*same, 255)] + [(0, 1), (1, 0), (1, 2), (2, 1), (3, 0), (0, 3)]
+    two += [(255, 256), (257, 256), (1, 511)]
     three = [(n, n, n) for n in same] + [(0, 0, 3), (3, 3, 3), (3, 3, 2), (3, 2, 3), (2, 3, 3), (5, 5, 0), (2, 2, 511)]
     for n, m in ((0, 1), (1, 0), (1, 2), (2, 1)):
         three += [(n, m, n), (n, m, m), (n, n, m)]
@@ -33,11 +33,13 @@ def not_finite():
         for bad in NOT_FINITE:
             for at in places(n):
                 broken, twos = with_(n, at, bad), [TWO] * n
-                cases += [dot(broken, twos), dot(twos, broken), point(broken, HALF, twos, n), point(twos, HALF, broken, n)]
+                cases += [dot(broken, twos), dot(twos, broken)]
+                cases += [point(broken, HALF, twos, n), point(twos, HALF, broken, n)]
             cases += [point([ONE] * n, bad, [TWO] * n, n), point([ONE] * n, bad, [0] * n, n)]
     ones = [ONE] * 256
     first, middle, last = [with_(256, at, bad) for at, bad in zip(places(256), NOT_FINITE)]
-    return cases + [dot(ones, first), dot(middle, ones), dot(last, ones), dot(ones, last), point(ones, HALF, middle, 256), point(last, HALF, ones, 256)]
+    cases += [dot(ones, first), dot(middle, ones), dot(last, ones), dot(ones, last)]
+    return cases + [point(ones, HALF, middle, 256), point(last, HALF, ones, 256)]
 
 
 def order():
@@ -90,12 +92,14 @@ def subnormals():
     cases = []
     for x in (TINY, SUB, NORM, SIGN | TINY, SIGN | SUB):
         for y in (ONE, HALF, TWO, F(0.1), F(1e300), TINY, SIGN | HALF):
-            cases += [dot([x], [y]), dot([x] * 3, [y, SIGN ^ y, HALF]), point([x], y, [NORM], 1), point([SUB, x], y, [x, TINY], 2)]
+            cases += [dot([x], [y]), dot([x] * 3, [y, SIGN ^ y, HALF])]
+            cases += [point([x], y, [NORM], 1), point([SUB, x], y, [x, TINY], 2)]
     return cases
 
 
 def patterns(r):
-    """Which patterns are finite: 1 times each is itself, or refused. Corners, any at random, and the first and last exponents."""
+    """Which patterns are finite: 1 times each is itself, or refused. Corners, any at random, and the first and last
+    exponents."""
     corners = ZEROS + [TINY, SIGN | TINY, SUB, NORM, NORM + 1, ONE, SIGN | ONE, F(0.1), MAX, SIGN | MAX] + NOT_FINITE
     corners += [SIGN | (INF + 1), SIGN | NAN, INF | (1 << 51)]
     loose = [r.word() for _ in range(100)]

@@ -3,8 +3,8 @@
 
 usage: make_cases.py STDIN STDOUT
 
-What must be printed is worked out from the rules alone, by the models on the floats of exact.py. Nothing of the program under
-test is used.
+What must be printed is worked out from the rules alone, by the models on the floats of exact.py. Nothing of the program
+under test is used.
 """
 import sys
 
@@ -15,7 +15,8 @@ from case_file import answer, dot
 from exact import F
 from model_cases import expected
 
-SHOWN = ["ASK", "STOP wolfe", "STOP approximate", "STOP met", "LIMIT", "VALUE", "POINT", "OUT", "BRACKET none", "BEST none", "COUNTS", "MALFORMED"] + ["REFUSED %d" % n for n in range(1, 9)]
+SHOWN = ["ASK", "STOP wolfe", "STOP approximate", "STOP met", "LIMIT", *("REFUSED %d" % n for n in range(1, 9)),
+         "VALUE", "POINT", "OUT", "BRACKET none", "BEST none", "COUNTS", "MALFORMED"]
 
 
 def listed():

@@ -3,30 +3,30 @@
 
 usage: make_jobs.py FOLDER
 
-FOLDER gets NAME.job and NAME.out. What must be written is worked out from the rules alone, by the models on the floats of exact.py.
-Nothing of the program under test is used.
+FOLDER gets NAME.job and NAME.out. What must be written is worked out from the rules alone, by the models on the floats
+of exact.py. Nothing of the program under test is used.
 """
 import os
 import struct
 import sys
 
-from exact import F, INF, MAX, NAN, SIGN, TINY
+from case_file import field, words
+from exact import HALF, INF, MAX, NAN, ONE, SIGN, TINY, ZERO, F
 from model_curves import NUMBERS
 from model_jobs import BOUNDS, BUDGET, CURVE, EPSILON, ITERATIONS, START, lines_of
+from model_lines import printed
 
-
-def field(tag, body, size=None):
-    return struct.pack(">BH", tag, len(body) if size is None else size) + body
+FOUR = F(4)
 
 
 def job(k, low=None, high=None, first=None, epsilon=None, b=None, n=None):
     """A job with the fields that are given; numbers are patterns."""
     out = field(CURVE, bytes([k]))
     if low is not None:
-        out += field(BOUNDS, struct.pack(">QQ", low, high))
+        out += field(BOUNDS, words(low, high))
     for tag, x in ((START, first), (EPSILON, epsilon)):
         if x is not None:
-            out += field(tag, struct.pack(">Q", x))
+            out += field(tag, words(x))
     for tag, x in ((BUDGET, b), (ITERATIONS, n)):
         if x is not None:
             out += field(tag, struct.pack(">H", x))
@@ -34,32 +34,31 @@ def job(k, low=None, high=None, first=None, epsilon=None, b=None, n=None):
 
 
 def stored():
-    zero, one, four = F(0), F(1), F(4)
-    sample = job(1, zero, four)
-    whole = job(1, zero, four, F(0.5), F(1e-3), 7, 9)
+    sample = job(1, ZERO, FOUR)
+    whole = job(1, ZERO, FOUR, HALF, F(1e-3), 7, 9)
     jobs = {
         "wolfe_sample": sample,
         "wolfe_every_field": whole,
         "approximate": job(6, F(10), F(100), F(-1), F(2)),
-        "limit": job(8, zero, four, n=1),
-        "limit_largest_counts": job(8, zero, four, b=1000, n=10000),
+        "limit": job(8, ZERO, FOUR, n=1),
+        "limit_largest_counts": job(8, ZERO, FOUR, b=1000, n=10000),
         # more lines than the program plays at a time
         "limit_in_two_chunks": job(5, F(10), F(100), F(2), n=300),
         # 2: an answer, and each number of a job
-        "2_answer": job(5, zero, F(1e80)),
-        "2_low_nan": job(1, NAN, four),
-        "2_high_infinite": job(1, zero, INF),
+        "2_answer": job(5, ZERO, F(1e80)),
+        "2_low_nan": job(1, NAN, FOUR),
+        "2_high_infinite": job(1, ZERO, INF),
         "2_start_nan": job(1, first=0x7FF0000000000001),
         "2_epsilon_infinite": job(1, epsilon=SIGN | INF),
-        "2_before_3_curve": job(9, NAN, four),
+        "2_before_3_curve": job(9, NAN, FOUR),
         "2_before_3_counts": job(1, first=NAN, b=0, n=0),
         # 3
         "3_curve_0": job(0),
         "3_curve_9": job(9),
-        "3_curve_255": job(255, zero, four),
-        "3_bounds_equal": job(1, one, one),
-        "3_bounds_zeros": job(1, SIGN, zero),
-        "3_bound_below_zero": job(1, SIGN | TINY, one),
+        "3_curve_255": job(255, ZERO, FOUR),
+        "3_bounds_equal": job(1, ONE, ONE),
+        "3_bounds_zeros": job(1, SIGN, ZERO),
+        "3_bound_below_zero": job(1, SIGN | TINY, ONE),
         "3_epsilon_below_zero": job(1, epsilon=SIGN | TINY),
         "3_budget_0": job(1, b=0),
         "3_budget_1001": job(1, b=1001),
@@ -73,9 +72,9 @@ def stored():
         "6": job(8, F(0.6), F(0.9), b=1),
         "7": job(8, F(0.6), F(0.9)),
         # accepted at the ends of the ranges
-        "low_minus_zero": job(7, SIGN, four),
-        "epsilon_minus_zero": job(6, zero, four, epsilon=SIGN),
-        "start_outside": job(7, F(0.5), four, F(-3)),
+        "low_minus_zero": job(7, SIGN, FOUR),
+        "epsilon_minus_zero": job(6, ZERO, FOUR, epsilon=SIGN),
+        "start_outside": job(7, HALF, FOUR, F(-3)),
         # 9
         "9_empty": b"",
         "9_tag_alone": b"\1",
@@ -90,7 +89,7 @@ def stored():
         "9_bounds_of_15": sample[:4] + field(BOUNDS, bytes(15)),
         "9_bounds_of_17": sample[:4] + field(BOUNDS, bytes(17)),
         "9_bounds_cut": sample[:-1],
-        "9_bounds_length_256_more": sample[:4] + field(BOUNDS, sample[7:], 272),
+        "9_bounds_length_256_more": sample[:4] + struct.pack(">BH", BOUNDS, 272) + sample[7:],
         "9_start_of_7": sample + field(START, bytes(7)),
         "9_epsilon_before_start": sample[:4] + field(EPSILON, bytes(8)) + field(START, bytes(8)),
         "9_budget_of_1": sample + field(BUDGET, b"\1"),
@@ -114,7 +113,7 @@ def main(folder):
     for name, job in stored().items():
         lines = list(lines_of(job))
         seen.add(" ".join(lines[-1].split()[:2]) if lines[-1][0] in "SR" else "LIMIT")
-        for end, what in ((".job", job), (".out", "".join(line + "\n" for line in lines).encode())):
+        for end, what in ((".job", job), (".out", printed(lines))):
             with open(os.path.join(folder, name + end), "wb") as f:
                 f.write(what)
     assert seen == {"STOP wolfe", "STOP approximate", "LIMIT"} | {f"REFUSED {n}" for n in (2, 3, 4, 5, 6, 7, 9)}, seen

@@ -2,9 +2,8 @@
 
 A condition is (kind, c or c1, c2); the first two kinds have no c2, and whatever stands there is not read.
 """
-from exact import F, absolute, add, is_finite, le, lt, mul, sub
+from exact import HALF, ONE, ZERO, absolute, add, is_finite, le, lt, mul, sub
 
-ZERO, HALF, ONE = F(0), F(0.5), F(1)
 KINDS = ARMIJO, GOLDSTEIN, WOLFE, STRONG = 1, 2, 3, 4
 
 

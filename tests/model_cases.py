@@ -1,11 +1,11 @@
-"""What the program `cases` must print for any bytes, by the models alone. docs/FORMATS.md has the format of a case file."""
+"""What the program `cases` must print for any bytes, by the models alone. docs/FORMATS.md has the format."""
 import struct
 
 import model_backtracking
 import model_hagerzhang
 import model_numbers
 from exact import INF, NAN, is_nan
-from model_lines import counts, line, number
+from model_lines import counts, line, number, printed
 
 ANSWER, HAGER_ZHANG, BACKTRACKING, DOT, POINT = 17, 32, 33, 34, 35
 LONGEST = 511
@@ -97,4 +97,4 @@ def expected(data, lines_of=case_lines):
         out += ["CASE %d" % (k + 1)] + lines_of(fields)
     if malformed is not None:
         out.append("MALFORMED at %d" % malformed)
-    return "".join(text + "\n" for text in out).encode()
+    return printed(out)

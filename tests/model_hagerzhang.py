@@ -1,10 +1,9 @@
 """The Hager-Zhang search, from the rules alone, as one piece of code (a generator) with no state machine."""
-from exact import F, absolute, add, div, is_finite, le, lt, mul, sub
+from exact import HALF, ONE, TWO, ZERO, F, absolute, add, div, is_finite, le, lt, mul, sub
 
-ZERO, ONE, TWO = F(0), F(1), F(2)
 EPS = 0x3CB0000000000000
 NAMES = "delta sigma epsilon theta gamma eta low high first".split()
-DEFAULTS = [F(0.1), F(0.9), F(1e-6), F(0.5), F(0.66), F(0.01), EPS, F(1e5), ONE]
+DEFAULTS = [F(0.1), F(0.9), F(1e-6), HALF, F(0.66), F(0.01), EPS, F(1e5), ONE]
 
 
 def secant(p, q):
@@ -29,7 +28,8 @@ class Refused(Exception):
 
 
 class Search:
-    """`first` is the start's outcome, and `held` the bracket's two points and the best, or None before the start is in."""
+    """`first` is the start's outcome, and `held` the bracket's two points and the best, or None before the start is
+    in."""
 
     def __init__(self, params, f0, s0, b, n):
         self.delta, self.sigma, self.epsilon, self.theta, self.gamma, _, self.low, self.high, self.start = params

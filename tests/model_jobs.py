@@ -1,4 +1,5 @@
-"""What the program `search` must print for any bytes, by the models alone: the job is taken apart by a reader of its own, field by field."""
+"""What the program `search` must print for any bytes, by the models alone: the job is taken apart by a reader of its
+own, field by field."""
 import struct
 
 from exact import F, is_finite
@@ -29,7 +30,8 @@ def parameters(fields):
     """Those of the search, the defaults where a field is absent; B; N."""
     floats = lambda tag, default: list(struct.unpack(f">{SIZES[tag] // 8}Q", fields[tag])) if tag in fields else default
     number = lambda tag: int.from_bytes(fields[tag], "big") if tag in fields else 100
-    params = DEFAULTS[:2] + floats(EPSILON, DEFAULTS[2:3]) + DEFAULTS[3:6] + floats(BOUNDS, DEFAULTS[6:8]) + floats(START, DEFAULTS[8:])
+    params = DEFAULTS[:2] + floats(EPSILON, DEFAULTS[2:3]) + DEFAULTS[3:6]
+    params += floats(BOUNDS, DEFAULTS[6:8]) + floats(START, DEFAULTS[8:])
     return params, number(BUDGET), number(ITERATIONS)
 
 

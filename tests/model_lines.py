@@ -1,6 +1,7 @@
 """The lines that both programs print for outcomes.
 
-An outcome is a pair: "ASK", "STOP wolfe", "STOP approximate", "STOP met" or "LIMIT" with the step's bits, or "REFUSED" with the number.
+An outcome is a pair: "ASK", "STOP wolfe", "STOP approximate", "STOP met" or "LIMIT" with the step's bits, or "REFUSED"
+with the number.
 """
 
 
@@ -19,3 +20,8 @@ def line(outcome, search):
     if word == "ASK":
         return "ASK " + number(what)
     return "%s %s %s" % (word, number(what), counts(search))
+
+
+def printed(lines):
+    """The lines as the bytes that are written."""
+    return "".join(text + "\n" for text in lines).encode()

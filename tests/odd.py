@@ -1,20 +1,25 @@
 #!/usr/bin/env python3
-"""Odd cases for the program `cases`: zeros of both signs, ties, overflow on the way, refusals that compete, ends that fall together.
+"""Odd cases for the program `cases`: zeros of both signs, ties, overflow on the way, refusals that compete, ends that
+fall together.
 
 usage: odd.py CASES EXPECTED     writes the case file, and the text that `cases` has to write for it.
 
-The expected lines were worked out by hand from the rules (01); nothing here computes them. In them `|` parts lines, and a float is
-written by its first hexadecimal digits and a dot, which stands for zeros up to 16 digits: 3FF. is 1.0, 4. is 2.0, C. is -2.0 and
-8. is -0.0. A case is its name, 01's words that decide it, its first field, the answers, the lines for these, and the closing lines.
+The expected lines were worked out by hand from the rules (01); nothing here computes them. In them `|` parts lines, and
+a float is written by its first hexadecimal digits and a dot, which stands for zeros up to 16 digits: 3FF. is 1.0, 4. is
+2.0, C. is -2.0 and 8. is -0.0. A case is its name, 01's words that decide it, its first field, the answers, the lines
+for these, and the closing lines.
 
-Where nothing else is said: delta 0.25, sigma 0.5, epsilon 0, theta 0.5, gamma 0.5, bounds 0 and 4, start step 1, f0 = 1, s0 = -2.
-So L = 1, "wolfe" is f - 1 <= (0.25*x)*-2 with g >= -1, and "approximate" is 1 >= g >= -1 with f <= 1. START answers the first three
-asks: a = (0, 1, -2), b = (4, 9, 6), c = (1, 1, -2). Then c is best, no verdict holds by its slope, and S1 asks secant(a, b) = 8/8 = 1.
+Where nothing else is said: delta 0.25, sigma 0.5, epsilon 0, theta 0.5, gamma 0.5, bounds 0 and 4, start step 1,
+f0 = 1, s0 = -2. So L = 1, "wolfe" is f - 1 <= (0.25*x)*-2 with g >= -1, and "approximate" is 1 >= g >= -1 with f <= 1.
+START answers the first three asks: a = (0, 1, -2), b = (4, 9, 6), c = (1, 1, -2). Then c is best, no verdict holds by
+its slope, and S1 asks secant(a, b) = 8/8 = 1.
 """
 import sys
 
 import case_file
-from exact import bits
+from exact import F
+from model_backtracking import ARMIJO, GOLDSTEIN, STRONG, WOLFE
+from model_lines import printed
 
 INF = float("inf")
 NAN = float("nan")
@@ -23,15 +28,16 @@ HUGE = 2.0 ** 1023
 TINY = 2.0 ** -1074
 START = [(1, -2), (9, 6), (1, -2)]
 NONE = "BRACKET none | BEST none | COUNTS evaluations 0 iterations 0"
-ARMIJO, GOLDSTEIN, WOLFE, STRONG = 1, 2, 3, 4
 
 
 def floats(*xs):
-    return [bits(float(x)) for x in xs]
+    return [F(x) for x in xs]
 
 
-def hz(delta=0.25, sigma=0.5, epsilon=0.0, theta=0.5, gamma=0.5, eta=0.01, low=0.0, high=4.0, start=1.0, f0=1.0, s0=-2.0, B=100, N=100):
-    return case_file.hager_zhang(floats(delta, sigma, epsilon, theta, gamma, eta, low, high, start), *floats(f0, s0), B, N)
+def hz(delta=0.25, sigma=0.5, epsilon=0.0, theta=0.5, gamma=0.5, eta=0.01, low=0.0, high=4.0, start=1.0,
+       f0=1.0, s0=-2.0, B=100, N=100):
+    params = floats(delta, sigma, epsilon, theta, gamma, eta, low, high, start)
+    return case_file.hager_zhang(params, *floats(f0, s0), B, N)
 
 
 def bt(condition, c1, c2=0.0, rho=0.5, alpha=1.0, f0=1.0, s0=-2.0, N=100):
@@ -63,14 +69,16 @@ CASES = [
      hz(epsilon=-0.0, f0=-3.0), [(-3, -2), (9, 6), (-3, -2), (-3, -1)],
      "CASE 5 | ASK 0. | ASK 401. | ASK 3FF. | ASK 3FF. | ASK 4.",
      "BRACKET 0. C008. C. 401. 4022. 4018. | BEST 3FF. C008. C. | COUNTS evaluations 4 iterations 0"),
-    ("minus-zero-epsilon-f0-above-0", "epsilon 1e-6: >= 0; L = f0 + epsilon_k; U2: c.f <= L", hz(epsilon=-0.0), START + [(1, -1)],
+    ("minus-zero-epsilon-f0-above-0", "epsilon 1e-6: >= 0; L = f0 + epsilon_k; U2: c.f <= L",
+     hz(epsilon=-0.0), START + [(1, -1)],
      "CASE 6 | ASK 0. | ASK 401. | ASK 3FF. | ASK 3FF. | ASK 4.",
      "BRACKET 0. 3FF. C. 401. 4022. 4018. | BEST 3FF. 3FF. C. | COUNTS evaluations 4 iterations 0"),
     ("flat-start-is-approximate", "(2*delta - 1)*s0 >= best.g, best.g >= sigma*s0 and best.f <= L",
      hz(epsilon=0.5, s0=0.0), [(9, -2), (9, 6), (1.5, -0.0)],
      "CASE 7 | ASK 0. | ASK 401. | ASK 3FF. | STOP approximate 3FF. evaluations 3 iterations 0",
      "BRACKET 0. 4022. C. 401. 4022. 4018. | BEST 3FF. 3FF8. 8. | COUNTS evaluations 3 iterations 0"),
-    ("delta-equals-sigma", "delta <= sigma < 1; (2*delta - 1)*s0 >= best.g", hz(delta=0.5), [(9, -2), (9, 6), (1, -0.0)],
+    ("delta-equals-sigma", "delta <= sigma < 1; (2*delta - 1)*s0 >= best.g",
+     hz(delta=0.5), [(9, -2), (9, 6), (1, -0.0)],
      "CASE 8 | ASK 0. | ASK 401. | ASK 3FF. | STOP approximate 3FF. evaluations 3 iterations 0",
      "BRACKET 0. 4022. C. 401. 4022. 4018. | BEST 3FF. 3FF. 8. | COUNTS evaluations 3 iterations 0"),
     # equal costs
@@ -89,12 +97,15 @@ CASES = [
     # S2 and S3
     ("S3-overwrites-S2", "S3: if |c.x - A.x| < EPS, e = secant(a, A), overwriting S2's.", hz(high=EPS / 2),
      [(1, -5), (9, 5), (1, -2), (3, -1), (0.5, -1), (0, 0.5), (0.25, -1)],
-     "CASE 13 | ASK 0. | ASK 3CA. | ASK 3FF. | ASK 3C9. | ASK 3C8. | ASK 3C88. | ASK 3C84. | STOP wolfe 3C88. evaluations 7 iterations 1",
+     "CASE 13 | ASK 0. | ASK 3CA. | ASK 3FF. | ASK 3C9. | ASK 3C8. | ASK 3C88. | ASK 3C84."
+     " | STOP wolfe 3C88. evaluations 7 iterations 1",
      "BRACKET 3C84. 3FD. BFF. 3C88. 0. 3FE. | BEST 3C88. 0. 3FE. | COUNTS evaluations 7 iterations 1"),
-    ("S3-not-finite-over-finite-S2", "In S2 and S3 only the final e is tested for refusal 5.", hz(high=EPS / 2), START + [(5, 1)],
+    ("S3-not-finite-over-finite-S2", "In S2 and S3 only the final e is tested for refusal 5.",
+     hz(high=EPS / 2), START + [(5, 1)],
      "CASE 14 | ASK 0. | ASK 3CA. | ASK 3FF. | ASK 3C8. | REFUSED 5",
      "BRACKET 0. 3FF. C. 3CA. 4022. 4018. | BEST 3FF. 3FF. C. | COUNTS evaluations 4 iterations 0"),
-    ("S3-finite-over-not-finite-S2", "In S2 and S3 only the final e is tested for refusal 5.", hz(high=EPS / 2), START + [(0, -1)],
+    ("S3-finite-over-not-finite-S2", "In S2 and S3 only the final e is tested for refusal 5.",
+     hz(high=EPS / 2), START + [(0, -1)],
      "CASE 15 | ASK 0. | ASK 3CA. | ASK 3FF. | ASK 3C8. | ASK 3C9.",
      "BRACKET 0. 3FF. C. 3CA. 4022. 4018. | BEST 3FF. 3FF. C. | COUNTS evaluations 4 iterations 0"),
     ("a-distance-of-EPS-is-not-below-it", "S3: if |c.x - A.x| < EPS", hz(high=4 * EPS), START + [(5, 2), (9, 9)],
@@ -105,8 +116,10 @@ CASES = [
      "CASE 17 | ASK 0. | ASK 3FF. | ASK 3FE. | ASK 3FF. | REFUSED 5",
      "BRACKET 0. 3FF. C. 3FF. 4022. 0. | BEST 3FE. 3FF. C. | COUNTS evaluations 4 iterations 0"),
     # the budget B
-    ("B-th-answer-ends-U3", "6: one U3 run has had B answers and the last did not end it", hz(B=2), START + [(3, -1), (0.5, -1), (0, 0.5)],
-     "CASE 18 | ASK 0. | ASK 401. | ASK 3FF. | ASK 3FF. | ASK 3FE. | ASK 3FE8. | STOP wolfe 3FE8. evaluations 6 iterations 1",
+    ("B-th-answer-ends-U3", "6: one U3 run has had B answers and the last did not end it",
+     hz(B=2), START + [(3, -1), (0.5, -1), (0, 0.5)],
+     "CASE 18 | ASK 0. | ASK 401. | ASK 3FF. | ASK 3FF. | ASK 3FE. | ASK 3FE8."
+     " | STOP wolfe 3FE8. evaluations 6 iterations 1",
      "BRACKET 3FE. 3FE. BFF. 3FE8. 0. 3FE. | BEST 3FE8. 0. 3FE. | COUNTS evaluations 6 iterations 1"),
     ("B-th-answer-does-not-end-U3", "6: .. the last did not end it; 8 before all; state unchanged",
      hz(B=2), START + [(3, -1), (0.5, -1), (1.5, -1), (NAN, 0), (0, 0)],
@@ -115,15 +128,16 @@ CASES = [
     ("B-th-answer-is-NaN", "A non-finite B-th answer is 2.", hz(B=2), START + [(3, -1), (0.5, -1), (NAN, 1)],
      "CASE 20 | ASK 0. | ASK 401. | ASK 3FF. | ASK 3FF. | ASK 3FE. | ASK 3FE8. | REFUSED 2",
      "BRACKET 0. 3FF. C. 401. 4022. 4018. | BEST 3FF. 3FF. C. | COUNTS evaluations 5 iterations 0"),
-    ("B-is-for-one-U3-run", "6: one U3 run has had B answers", hz(gamma=0.0625, B=1), START + [(3, -1), (5, 1), (3, -1), (5, 2)],
+    ("B-is-for-one-U3-run", "6: one U3 run has had B answers",
+     hz(gamma=0.0625, B=1), START + [(3, -1), (5, 1), (3, -1), (5, 2)],
      "CASE 21 | ASK 0. | ASK 401. | ASK 3FF. | ASK 3FF. | ASK 3FE. | ASK 3FD. | ASK 3FC. | ASK 3FB.",
      "BRACKET 0. 3FF. C. 3FC. 4014. 4. | BEST 3FF. 3FF. C. | COUNTS evaluations 7 iterations 1"),
     ("6-before-7", "After a finite B-th answer, 6 comes before 5 and 7",
      hz(low=1.0, high=1 + 4 * EPS, start=5.0, B=1), [(1, -1), (9, 1), (1, -2), (3, -1), (3, -1)],
      "CASE 22 | ASK 3FF. | ASK 3FF0000000000004 | ASK 4014. | ASK 3FF0000000000002 | ASK 3FF0000000000001 | REFUSED 6",
      "BRACKET 3FF. 3FF. BFF. 3FF0000000000004 4022. 3FF. | BEST 4014. 3FF. C. | COUNTS evaluations 5 iterations 0"),
-    ("B-th-answer-ends-U3-then-5", "ask (A.x + Z.x)/2; 5: the next trial step comes out not finite", hz(low=HUGE, high=1.5 * HUGE, gamma=0.125, B=1),
-     [(9, -0.25), (9, 0.25), (1, -2), (9, -0.125), (9, 0.25)],
+    ("B-th-answer-ends-U3-then-5", "ask (A.x + Z.x)/2; 5: the next trial step comes out not finite",
+     hz(low=HUGE, high=1.5 * HUGE, gamma=0.125, B=1), [(9, -0.25), (9, 0.25), (1, -2), (9, -0.125), (9, 0.25)],
      "CASE 23 | ASK 7FE. | ASK 7FE8. | ASK 3FF. | ASK 7FE4. | ASK 7FE2. | REFUSED 5",
      "BRACKET 7FE. 4022. BFD. 7FE8. 4022. 3FD. | BEST 3FF. 3FF. C. | COUNTS evaluations 5 iterations 0"),
     # refusal 7
@@ -142,10 +156,12 @@ CASES = [
      "CASE 26 | ASK 3FF. | ASK 401. | ASK 3FF. | ASK 4008. | REFUSED 7",
      "BRACKET 3FF. 3FF. C. 401. 4022. 3FF. | BEST 3FF. 3FF. C. | COUNTS evaluations 4 iterations 0"),
     # the limit N
-    ("verdict-before-limit", "After an iteration the verdict is tested first, then the limit", hz(N=1), START + [(0, 0), (7, 7)],
+    ("verdict-before-limit", "After an iteration the verdict is tested first, then the limit",
+     hz(N=1), START + [(0, 0), (7, 7)],
      "CASE 27 | ASK 0. | ASK 401. | ASK 3FF. | ASK 3FF. | ASK 3FF. | STOP wolfe 3FF. evaluations 5 iterations 1",
      "BRACKET 0. 3FF. C. 3FF. 0. 0. | BEST 3FF. 0. 0. | COUNTS evaluations 5 iterations 1"),
-    ("limit-with-best-step", "the outcome limit, with bracket and best of the N-th iteration", hz(N=1), START + [(5, 2), (0, 0)],
+    ("limit-with-best-step", "the outcome limit, with bracket and best of the N-th iteration",
+     hz(N=1), START + [(5, 2), (0, 0)],
      "CASE 28 | ASK 0. | ASK 401. | ASK 3FF. | ASK 3FF. | ASK BFE. | LIMIT 3FF. evaluations 5 iterations 1",
      "BRACKET 0. 3FF. C. 3FF. 4014. 4. | BEST 3FF. 3FF. C. | COUNTS evaluations 5 iterations 1"),
     ("limit-before-the-next-step", "then the limit; only then is the next step worked out",
@@ -157,7 +173,8 @@ CASES = [
      "CASE 30 | ASK 0. | ASK 401. | ASK 3FF. | ASK 403. | ASK 4. | REFUSED 5",
      "BRACKET 4. 3FE. BFF8. 401. 4022. BFF8. | BEST 4. 3FE. BFF8. | COUNTS evaluations 5 iterations 1"),
     # overflow and underflow on the way
-    ("secant-by-zero-after-the-start", "Secant(p, q) = (p.x*q.g - q.x*p.g)/(q.g - p.g); 5", hz(), [(1, -2), (9, -2), (1, -2)],
+    ("secant-by-zero-after-the-start", "Secant(p, q) = (p.x*q.g - q.x*p.g)/(q.g - p.g); 5",
+     hz(), [(1, -2), (9, -2), (1, -2)],
      "CASE 31 | ASK 0. | ASK 401. | ASK 3FF. | REFUSED 5",
      "BRACKET 0. 3FF. C. 401. 4022. C. | BEST 3FF. 3FF. C. | COUNTS evaluations 3 iterations 0"),
     ("secant-overflows-above", "every operation rounded once, grouped as written; 5",
@@ -172,24 +189,28 @@ CASES = [
      hz(f0=HUGE), [(1, -2), (9, 6), (-HUGE, -1)],
      "CASE 34 | ASK 0. | ASK 401. | ASK 3FF. | STOP wolfe 3FF. evaluations 3 iterations 0",
      "BRACKET 0. 3FF. C. 401. 4022. 4018. | BEST 3FF. FFE. BFF. | COUNTS evaluations 3 iterations 0"),
-    ("rise-in-cost-is-infinite", "wolfe if best.f - f0 <= (delta*best.x)*s0", hz(f0=-HUGE), [(HUGE, -2), (HUGE, 6), (HUGE, 0)],
+    ("rise-in-cost-is-infinite", "wolfe if best.f - f0 <= (delta*best.x)*s0",
+     hz(f0=-HUGE), [(HUGE, -2), (HUGE, 6), (HUGE, 0)],
      "CASE 35 | ASK 0. | ASK 401. | ASK 3FF. | ASK 3FF.",
      "BRACKET 0. 7FE. C. 401. 7FE. 4018. | BEST 3FF. 7FE. 0. | COUNTS evaluations 3 iterations 0"),
     ("wolfe-bound-is-infinite", "The sign of s0 is not checked; best.f - f0 <= (delta*best.x)*s0",
      hz(start=2.0 ** 1000, s0=2.0 ** 1000), [(9, -2), (9, 6), (1, 2.0 ** 1000)],
      "CASE 36 | ASK 0. | ASK 401. | ASK 7E7. | STOP wolfe 7E7. evaluations 3 iterations 0",
      "BRACKET 0. 4022. C. 401. 4022. 4018. | BEST 7E7. 3FF. 7E7. | COUNTS evaluations 3 iterations 0"),
-    ("L2-among-the-smallest-floats", "L2: if Z.x - A.x > gamma*(b.x - a.x); every operation rounded once", hz(gamma=0.6, high=3 * TINY),
-     [(1, -2), (9, 4), (1, -2), (0.5, -1.5), (7, 7)],
-     "CASE 37 | ASK 0. | ASK 0000000000000003 | ASK 3FF. | ASK 0000000000000001 | ASK 0000000000000004 | ASK 0000000000000001",
-     "BRACKET 0000000000000001 3FE. BFF8. 0000000000000003 4022. 401. | BEST 0000000000000001 3FE. BFF8. | COUNTS evaluations 5 iterations 1"),
+    ("L2-among-the-smallest-floats", "L2: if Z.x - A.x > gamma*(b.x - a.x); every operation rounded once",
+     hz(gamma=0.6, high=3 * TINY), [(1, -2), (9, 4), (1, -2), (0.5, -1.5), (7, 7)],
+     "CASE 37 | ASK 0. | ASK 0000000000000003 | ASK 3FF. | ASK 0000000000000001 | ASK 0000000000000004"
+     " | ASK 0000000000000001",
+     "BRACKET 0000000000000001 3FE. BFF8. 0000000000000003 4022. 401. | BEST 0000000000000001 3FE. BFF8."
+     " | COUNTS evaluations 5 iterations 1"),
     ("L-is-rounded", "L = f0 + epsilon_k; U2: c.f <= L", hz(epsilon=0.75 * EPS), START + [(1 + EPS, -1)],
      "CASE 38 | ASK 0. | ASK 401. | ASK 3FF. | ASK 3FF. | ASK 4.",
      "BRACKET 0. 3FF. C. 401. 4022. 4018. | BEST 3FF. 3FF. C. | COUNTS evaluations 4 iterations 0"),
     # the start step
     ("start-outside-stays-best", "This c is always the start step, never a later trial.",
      hz(start=-7.0, N=2), [(1, -2), (9, 6), (-5, -3), (5, 2), (0, 0), (5, 1), (-9, 0)],
-     "CASE 39 | ASK 0. | ASK 401. | ASK C01C. | ASK 3FF. | ASK BFE. | ASK 3FE. | ASK 8. | LIMIT C01C. evaluations 7 iterations 2",
+     "CASE 39 | ASK 0. | ASK 401. | ASK C01C. | ASK 3FF. | ASK BFE. | ASK 3FE. | ASK 8."
+     " | LIMIT C01C. evaluations 7 iterations 2",
      "BRACKET 0. 3FF. C. 3FE. 4014. 3FF. | BEST C01C. C014. C008. | COUNTS evaluations 7 iterations 2"),
     ("start-outside-stops-then-8-twice", "any finite number, also outside the bounds; 8: state unchanged",
      hz(start=7.0), [(1, -2), (9, 6), (-5, -1), (0, 0), (INF, NAN)],
@@ -200,50 +221,73 @@ CASES = [
      hz(), START + [(5, 2), (0, 0), (5, 1), (0, -INF)],
      "CASE 41 | ASK 0. | ASK 401. | ASK 3FF. | ASK 3FF. | ASK BFE. | ASK 3FE. | ASK 8. | REFUSED 2",
      "BRACKET 0. 3FF. C. 3FF. 4014. 4. | BEST 3FF. 3FF. C. | COUNTS evaluations 6 iterations 1"),
-    ("refused-in-the-start", "During the first three answers there is no bracket and no best", hz(), [(1, -2), (INF, 6), (1, 1)],
-     "CASE 42 | ASK 0. | ASK 401. | REFUSED 2 | REFUSED 8", "BRACKET none | BEST none | COUNTS evaluations 1 iterations 0"),
+    ("refused-in-the-start", "During the first three answers there is no bracket and no best",
+     hz(), [(1, -2), (INF, 6), (1, 1)],
+     "CASE 42 | ASK 0. | ASK 401. | REFUSED 2 | REFUSED 8",
+     "BRACKET none | BEST none | COUNTS evaluations 1 iterations 0"),
     # backtracking
-    ("armijo-ignores-a-NaN-slope", "the slope supplied is ignored, NaN included", bt(ARMIJO, 0.5, c2=NAN), [(0.25, NAN), (0.5, NAN)],
-     "CASE 43 | ASK 3FF. | ASK 3FE. | STOP met 3FE. evaluations 2 iterations 1", "BRACKET none | BEST none | COUNTS evaluations 2 iterations 1"),
-    ("goldstein-ignores-the-slope", "the slope supplied is ignored, NaN included", bt(GOLDSTEIN, 0.25, c2=INF), [(-0.75, INF), (0.25, NAN)],
-     "CASE 44 | ASK 3FF. | ASK 3FE. | STOP met 3FE. evaluations 2 iterations 1", "BRACKET none | BEST none | COUNTS evaluations 2 iterations 1"),
-    ("wolfe-refuses-a-NaN-slope", "Only the Wolfe pair needs a slope at t.", bt(WOLFE, 0.25, c2=0.5), [(9, NAN), (0, 0)],
+    ("armijo-ignores-a-NaN-slope", "the slope supplied is ignored, NaN included",
+     bt(ARMIJO, 0.5, c2=NAN), [(0.25, NAN), (0.5, NAN)],
+     "CASE 43 | ASK 3FF. | ASK 3FE. | STOP met 3FE. evaluations 2 iterations 1",
+     "BRACKET none | BEST none | COUNTS evaluations 2 iterations 1"),
+    ("goldstein-ignores-the-slope", "the slope supplied is ignored, NaN included",
+     bt(GOLDSTEIN, 0.25, c2=INF), [(-0.75, INF), (0.25, NAN)],
+     "CASE 44 | ASK 3FF. | ASK 3FE. | STOP met 3FE. evaluations 2 iterations 1",
+     "BRACKET none | BEST none | COUNTS evaluations 2 iterations 1"),
+    ("wolfe-refuses-a-NaN-slope", "Only the Wolfe pair needs a slope at t.",
+     bt(WOLFE, 0.25, c2=0.5), [(9, NAN), (0, 0)],
      "CASE 45 | ASK 3FF. | REFUSED 2 | REFUSED 8", NONE),
     ("later-trial-refused", "after a refusal it keeps the iteration count from before that trial",
      bt(STRONG, 0.25, c2=0.5), [(0.5, 1.5), (0.75, -1.5), (0, NAN), (0, 0)],
-     "CASE 46 | ASK 3FF. | ASK 3FE. | ASK 3FD. | REFUSED 2 | REFUSED 8", "BRACKET none | BEST none | COUNTS evaluations 2 iterations 1"),
-    ("alpha-shrunk-to-0", "An alpha that has shrunk to 0 is asked like any other.", bt(ARMIJO, 0.5, alpha=TINY), [(2, 0), (2, 0), (1, 0)],
+     "CASE 46 | ASK 3FF. | ASK 3FE. | ASK 3FD. | REFUSED 2 | REFUSED 8",
+     "BRACKET none | BEST none | COUNTS evaluations 2 iterations 1"),
+    ("alpha-shrunk-to-0", "An alpha that has shrunk to 0 is asked like any other.",
+     bt(ARMIJO, 0.5, alpha=TINY), [(2, 0), (2, 0), (1, 0)],
      "CASE 47 | ASK 0000000000000001 | ASK 0. | ASK 0. | STOP met 0. evaluations 3 iterations 2",
      "BRACKET none | BEST none | COUNTS evaluations 3 iterations 2"),
     ("alpha-that-shrinks-no-more", "then alpha*rho, and so on; its limit has the last step tested",
      bt(ARMIJO, 0.5, rho=0.75, alpha=TINY, N=2), [(2, 0), (2, 0), (2, 0)],
-     "CASE 48 | ASK 0000000000000001 | ASK 0000000000000001 | ASK 0000000000000001 | LIMIT 0000000000000001 evaluations 3 iterations 2",
+     "CASE 48 | ASK 0000000000000001 | ASK 0000000000000001 | ASK 0000000000000001"
+     " | LIMIT 0000000000000001 evaluations 3 iterations 2",
      "BRACKET none | BEST none | COUNTS evaluations 3 iterations 2"),
     ("limit-after-two-answers", "each later trial is one iteration", bt(ARMIJO, 0.5, N=1), [(2, 0), (2, 0)],
-     "CASE 49 | ASK 3FF. | ASK 3FE. | LIMIT 3FE. evaluations 2 iterations 1", "BRACKET none | BEST none | COUNTS evaluations 2 iterations 1"),
-    ("armijo-groups-to-the-left", "Armijo: f <= f0 + (c*t)*s0.", bt(ARMIJO, 0.125, alpha=8.0, f0=0.0, s0=-HUGE), [(-HUGE, 0)],
-     "CASE 50 | ASK 402. | STOP met 402. evaluations 1 iterations 0", "BRACKET none | BEST none | COUNTS evaluations 1 iterations 0"),
-    ("goldstein-groups-by-m", "Goldstein: with m = t*s0, f0 + (1-c)*m <= f and f <= f0 + c*m.", bt(GOLDSTEIN, 0.125, alpha=8.0, f0=0.0, s0=-HUGE),
-     [(-HUGE, 0), (-HUGE, 0), (-HUGE, 0), (-HUGE / 2, 0)],
+     "CASE 49 | ASK 3FF. | ASK 3FE. | LIMIT 3FE. evaluations 2 iterations 1",
+     "BRACKET none | BEST none | COUNTS evaluations 2 iterations 1"),
+    ("armijo-groups-to-the-left", "Armijo: f <= f0 + (c*t)*s0.",
+     bt(ARMIJO, 0.125, alpha=8.0, f0=0.0, s0=-HUGE), [(-HUGE, 0)],
+     "CASE 50 | ASK 402. | STOP met 402. evaluations 1 iterations 0",
+     "BRACKET none | BEST none | COUNTS evaluations 1 iterations 0"),
+    ("goldstein-groups-by-m", "Goldstein: with m = t*s0, f0 + (1-c)*m <= f and f <= f0 + c*m.",
+     bt(GOLDSTEIN, 0.125, alpha=8.0, f0=0.0, s0=-HUGE), [(-HUGE, 0), (-HUGE, 0), (-HUGE, 0), (-HUGE / 2, 0)],
      "CASE 51 | ASK 402. | ASK 401. | ASK 4. | ASK 3FF. | STOP met 3FF. evaluations 4 iterations 3",
      "BRACKET none | BEST none | COUNTS evaluations 4 iterations 3"),
     # vectors
-    ("dot-keeps-minus-zero", "Dot adds products from the left, starting with the first product.", dot([-0.0], [1.0]), [], "CASE 52 | VALUE 8.", ""),
-    ("dot-from-the-left", "Dot adds products from the left", dot([2.0 ** 53, 1, -2.0 ** 53], [1, 1, 1]), [], "CASE 53 | VALUE 0.", ""),
-    ("dot-overflows-on-the-way", "4: a dot .. comes out not finite", dot([HUGE, HUGE, -HUGE], [1, 1, 1]), [], "CASE 54 | REFUSED 4", ""),
-    ("dot-of-256", "Vectors have n elements, 1 <= n <= 256.", dot([1.0] * 256, [1.0] * 256), [], "CASE 55 | VALUE 407.", ""),
+    ("dot-keeps-minus-zero", "Dot adds products from the left, starting with the first product.",
+     dot([-0.0], [1.0]), [], "CASE 52 | VALUE 8.", ""),
+    ("dot-from-the-left", "Dot adds products from the left",
+     dot([2.0 ** 53, 1, -2.0 ** 53], [1, 1, 1]), [], "CASE 53 | VALUE 0.", ""),
+    ("dot-overflows-on-the-way", "4: a dot .. comes out not finite",
+     dot([HUGE, HUGE, -HUGE], [1, 1, 1]), [], "CASE 54 | REFUSED 4", ""),
+    ("dot-of-256", "Vectors have n elements, 1 <= n <= 256.",
+     dot([1.0] * 256, [1.0] * 256), [], "CASE 55 | VALUE 407.", ""),
     ("dot-of-257", "1: n is 0, above 256; then 1, 9, 2", dot([NAN] * 257, [1.0] * 257), [], "CASE 56 | REFUSED 1", ""),
     ("dot-of-0", "1: n is 0", dot([], []), [], "CASE 57 | REFUSED 1", ""),
-    ("point-last-element-overflows", "A scaled point checks all elements before it writes any.", point([1, 2, HUGE], HUGE, [1, 1, 1], 3), [],
+    ("point-last-element-overflows", "A scaled point checks all elements before it writes any.",
+     point([1, 2, HUGE], HUGE, [1, 1, 1], 3), [],
      "CASE 58 | REFUSED 4 | OUT 7FF. 7FF. 7FF.", ""),
-    ("point-keeps-minus-zero", "A point is x0[i] + alpha*d[i].", point([-0.0, 1], -0.0, [1, 5], 2), [], "CASE 59 | POINT | OUT 8. 3FF.", ""),
-    ("point-lengths-before-NaN", "1: lengths differ; then 1, 9, 2", point([NAN], 1.0, [1, 2], 1), [], "CASE 60 | REFUSED 1 | OUT 7FF.", ""),
+    ("point-keeps-minus-zero", "A point is x0[i] + alpha*d[i].",
+     point([-0.0, 1], -0.0, [1, 5], 2), [], "CASE 59 | POINT | OUT 8. 3FF.", ""),
+    ("point-lengths-before-NaN", "1: lengths differ; then 1, 9, 2",
+     point([NAN], 1.0, [1, 2], 1), [], "CASE 60 | REFUSED 1 | OUT 7FF.", ""),
     ("point-of-0", "1: n is 0", point([], 1.0, [], 0), [], "CASE 61 | REFUSED 1 | OUT", ""),
     # the order of refusals
     ("NaN-bound-and-B-0", "then 1, 9, 2, 3, 4 in that order", hz(high=NAN, B=0), [], "CASE 62 | REFUSED 2", NONE),
-    ("theta-1-and-L-overflows", "then 1, 9, 2, 3, 4 in that order", hz(theta=1.0, epsilon=1.0, f0=HUGE), [], "CASE 63 | REFUSED 3", NONE),
-    ("L-overflows", "4: .. epsilon_k or L comes out not finite", hz(epsilon=1.0, f0=HUGE), [(1, 1)], "CASE 64 | REFUSED 4 | REFUSED 8", NONE),
-    ("epsilon_k-overflows", "4: .. epsilon_k or L comes out not finite", hz(epsilon=4.0, f0=-HUGE), [], "CASE 65 | REFUSED 4", NONE),
+    ("theta-1-and-L-overflows", "then 1, 9, 2, 3, 4 in that order",
+     hz(theta=1.0, epsilon=1.0, f0=HUGE), [], "CASE 63 | REFUSED 3", NONE),
+    ("L-overflows", "4: .. epsilon_k or L comes out not finite",
+     hz(epsilon=1.0, f0=HUGE), [(1, 1)], "CASE 64 | REFUSED 4 | REFUSED 8", NONE),
+    ("epsilon_k-overflows", "4: .. epsilon_k or L comes out not finite",
+     hz(epsilon=4.0, f0=-HUGE), [], "CASE 65 | REFUSED 4", NONE),
     ("backtracking-NaN-rho-and-N-0", "then 1, 9, 2, 3, 4 in that order",
      bt(ARMIJO, 0.5, rho=NAN, N=0), [(0, 0)], "CASE 66 | REFUSED 2 | REFUSED 8", NONE),
     ("B-and-N-above-their-ranges", "U3 budget B is 1 to 1,000; iteration limit N is 1 to 10,000",
@@ -253,12 +297,13 @@ CASES = [
 
 def written(lines):
     """The lines as they are printed: a float's zeros filled in."""
-    whole = [" ".join(w[:-1].ljust(16, "0") if w.endswith(".") else w for w in line.split()) for line in lines.split("|") if line.strip()]
-    return "".join(line + "\n" for line in whole)
+    filled = lambda word: word[:-1].ljust(16, "0") if word.endswith(".") else word
+    whole = [" ".join(map(filled, line.split())) for line in lines.split("|") if line.strip()]
+    return printed(whole)
 
 
 def main(cases, expected):
-    with open(cases, "wb") as cases, open(expected, "w", newline="\n") as expected:
+    with open(cases, "wb") as cases, open(expected, "wb") as expected:
         for name, reason, first, answers, lines, closing in CASES:
             cases.write(first + b"".join(case_file.answer(*floats(*y)) for y in answers))
             expected.write(written(lines) + written(closing))

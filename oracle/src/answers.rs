@@ -21,8 +21,8 @@ pub enum Shape {
     Split { low: f64, at: f64, level: f64 },
     /// Rising slopes in a window alone and from `end` on; low costs below the window, costs above L behind it.
     Window { low: f64, high: f64, end: f64, level: f64 },
-    /// Costs and slopes on the edge of Goldstein's condition, or of the others and the verdict, or a float beside it; also
-    /// on edges that another grouping of the products would have.
+    /// Costs and slopes on the edge of Goldstein's condition, or of the others and the verdict, or a float beside it;
+    /// also on edges that another grouping of the products would have.
     Edge { goldstein: bool, f0: f64, s0: f64, c1: f64, c2: f64, level: f64 },
 }
 

@@ -23,8 +23,8 @@ pub struct HagerZhang {
 impl HagerZhang {
     pub fn floats(&self) -> [f64; 11] {
         [
-            self.delta, self.sigma, self.epsilon, self.theta, self.gamma, self.eta, self.min, self.max, self.step, self.f0,
-            self.s0,
+            self.delta, self.sigma, self.epsilon, self.theta, self.gamma, self.eta, self.min, self.max, self.step,
+            self.f0, self.s0,
         ]
     }
 }
@@ -121,7 +121,9 @@ fn expected(run: &Run, answers: usize) -> String {
         .unwrap();
     }
     match mark {
-        Some(Mark { held: Some([a, b, best]), .. }) => writeln!(out, "BRACKET{}\nBEST{}", hex(&[*a, *b]), hex(&[*best])),
+        Some(Mark { held: Some([a, b, best]), .. }) => {
+            writeln!(out, "BRACKET{}\nBEST{}", hex(&[*a, *b]), hex(&[*best]))
+        }
         _ => writeln!(out, "BRACKET none\nBEST none"),
     }
     .unwrap();
@@ -144,7 +146,14 @@ impl<W: Write> Files<W> {
     }
 
     /// One case: the run's first answers, and `more` that come after its end.
-    pub fn case(&mut self, kind: &str, start: &Start, run: &Run, answers: usize, more: &[(f64, f64)]) -> io::Result<()> {
+    pub fn case(
+        &mut self,
+        kind: &str,
+        start: &Start,
+        run: &Run,
+        answers: usize,
+        more: &[(f64, f64)],
+    ) -> io::Result<()> {
         self.count += 1;
         let bytes = input(start, &[&run.answers[..answers], more].concat());
         self.cases.write_all(&bytes)?;

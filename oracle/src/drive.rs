@@ -1,7 +1,7 @@
 //! Runs argmin's searches as its executor does, and writes down what they ask.
 //!
-//! 01's refusals are not argmin's. They are told here from what argmin asks and is answered: the steps and the answers tell
-//! 2 and 5, and `Watch` tells 6 and 7. What argmin does past a refusal is only counted.
+//! 01's refusals are not argmin's. They are told here from what argmin asks and is answered: the steps and the answers
+//! tell 2 and 5, and `Watch` tells 6 and 7. What argmin does past a refusal is only counted.
 
 use crate::answers::Model;
 use crate::cases::{Backtracking, Condition, HagerZhang, Start};
@@ -64,7 +64,8 @@ pub struct Run {
 
 impl Run {
     fn refused_at_start(number: u32) -> Run {
-        Run { asks: vec![], answers: vec![], marks: vec![], end: End::Refused(number), rules: String::new(), past: None }
+        let end = End::Refused(number);
+        Run { asks: vec![], answers: vec![], marks: vec![], end, rules: String::new(), past: None }
     }
 
     /// The finite answers.
@@ -76,7 +77,8 @@ impl Run {
     }
 }
 
-/// Where argmin evaluates: its starting point, or a step from there. The step is the float that it gave to the scaled add.
+/// Where argmin evaluates: its starting point, or a step from there. The step is the float that it gave to the scaled
+/// add.
 #[derive(Clone, Copy)]
 enum Place {
     Start,
@@ -135,7 +137,8 @@ struct Plant<'a> {
 
 impl Plant<'_> {
     fn new(model: &Model, slope_read: bool, most: usize, watch: Option<Watch>) -> Plant<'_> {
-        Plant { model, slope_read, most, watch, asks: vec![], answers: vec![], refused: None, past: 0, last: (0.0, 0.0) }
+        let (asks, answers) = (vec![], vec![]);
+        Plant { model, slope_read, most, watch, asks, answers, refused: None, past: 0, last: (0.0, 0.0) }
     }
 }
 
@@ -215,8 +218,8 @@ impl<L> Look for BacktrackingSolver<L> {
     }
 }
 
-/// argmin's executor: init; then terminate, the iteration limit and next_iter in turn. Its target cost is minus infinity unless
-/// one is set, and no finite cost reaches that.
+/// argmin's executor: init; then terminate, the iteration limit and next_iter in turn. Its target cost is minus
+/// infinity unless one is set, and no finite cost reaches that.
 fn execute<'a, S>(mut solver: S, plant: Plant<'a>, (f0, s0, limit): (f64, f64, u32)) -> Run
 where
     S: Solver<Plant<'a>, State> + Look,

@@ -1,5 +1,5 @@
-//! argmin's own line searches as an oracle: makes searches, runs argmin on them, and writes what the program `cases` is to
-//! read and to print.
+//! argmin's own line searches as an oracle: makes searches, runs argmin on them, and writes what the program `cases` is
+//! to read and to print.
 //!
 //! usage: oracle random SEED COUNT FOLDER    at least COUNT cases
 //!        oracle list SEED COUNT FOLDER      a short list: of COUNT searches those that go a new way, with few answers
@@ -70,11 +70,13 @@ impl Made {
     fn finish(mut self, seed: u64) -> io::Result<()> {
         self.files.flush()?;
         println!("seed {seed}: {} searches, {} cases", self.searches, self.files.count);
-        let used: Vec<String> = RULES.iter().map(|(c, name)| format!("{name}: {}", self.rules.get(c).unwrap_or(&0))).collect();
+        let times = |c: &char| self.rules.get(c).unwrap_or(&0);
+        let used: Vec<String> = RULES.iter().map(|(c, name)| format!("{name}: {}", times(c))).collect();
         println!("rules used: {}", used.join("; "));
         let past = |p: Past| self.past[p as usize];
         println!(
-            "past a refusal, argmin stopped: {}; came to its limit: {}; met its unreachable point: {}; did not end in {PATIENCE} evaluations: {}",
+            "past a refusal, argmin stopped: {}; came to its limit: {}; met its unreachable point: {}; \
+             did not end in {PATIENCE} evaluations: {}",
             past(Past::Stopped), past(Past::AtLimit), past(Past::Unreachable), past(Past::BrokenOff),
         );
         Ok(())
@@ -117,8 +119,8 @@ fn random(made: &mut Made, seed: u64, count: u64) -> io::Result<()> {
     Ok(())
 }
 
-/// Of so many searches those that meet the rules in a new order or end another way, starts that are spoiled in a new way, and
-/// any on an edge and of backtracking.
+/// Of so many searches those that meet the rules in a new order or end another way, starts that are spoiled in a new
+/// way, and any on an edge and of backtracking.
 fn list(made: &mut Made, seed: u64, tries: u64) -> io::Result<()> {
     let mut ways = HashSet::new();
     let mut taken = BTreeMap::new();

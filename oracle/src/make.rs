@@ -29,8 +29,10 @@ const CURVES: [[f64; 5]; 8] = [
 const BELOW_ONE: f64 = 1.0 - f64::EPSILON / 2.0;
 
 /// Numbers on and beside the ends of the parameters' ranges.
-const ENDS: [f64; 14] =
-    [0.0, -0.0, TINY, -TINY, -1.0, 0.5, 0.5 - f64::EPSILON / 4.0, 1.0, BELOW_ONE, 1.0 + f64::EPSILON, 2.0, 1e5, f64::MAX, f64::MIN];
+const ENDS: [f64; 14] = [
+    0.0, -0.0, TINY, -TINY, -1.0, 0.5, 0.5 - f64::EPSILON / 4.0, 1.0, BELOW_ONE, 1.0 + f64::EPSILON, 2.0, 1e5,
+    f64::MAX, f64::MIN,
+];
 
 fn bounds(r: &mut Random) -> (f64, f64) {
     let (low, high) = match r.below(16) {

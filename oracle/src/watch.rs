@@ -145,7 +145,8 @@ impl Watch {
 
     pub fn finished(&mut self, [a, b, best]: [Point; 3], c: Point) {
         let bits = |(x, f, g): Point| [x, f, g].map(f64::to_bits);
-        assert_eq!([self.low, self.high].map(f64::to_bits), [a.0, b.0].map(f64::to_bits), "argmin's bracket and the rules'");
+        let steps = |low: f64, high: f64| [low, high].map(f64::to_bits);
+        assert_eq!(steps(self.low, self.high), steps(a.0, b.0), "argmin's bracket and the rules'");
         self.rules.push(match bits(best) {
             p if p == bits(c) => 'c',
             p if p == bits(b) => 'b',
