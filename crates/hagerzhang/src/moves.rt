@@ -68,17 +68,6 @@ pub(crate) fn tries(u: Bracket, rule: Rule, x: f64) -> Move
     Move::Try(u, Trial { rule, x })
 }
 
-// (5) The next state, and what is said. An end keeps what the last finished iteration left.
-pub(crate) fn made(theta: f64, last: Finished, m: Move) -> Next
-    ensures { λ r. ⌜ r ≡ madeOf theta last m ⌝ }
-{
-    match test(theta, last.best.x, m) {
-        Tested::Try(u, t) => asks(Waiting::Running(last, t, Asked::Update(u)), t.x),
-        Tested::Narrow(t, e) => asks(Waiting::Running(last, t, Asked::Between(e)), e.d),
-        Tested::End(outcome) => ended(Kept::Last(last), outcome),
-    }
-}
-
 // A move that was tested: it is asked, or the search is over.
 enum Tested {
     Try(Bracket, Trial),
@@ -130,4 +119,15 @@ fn refused(r: Refusal) -> Tested
     ensures { λ t. ⌜ t ≡ refusedOf r ⌝ }
 {
     Tested::End(Outcome::Refused(r))
+}
+
+// (5) The next state, and what is said. An end keeps what the last finished iteration left.
+pub(crate) fn made(theta: f64, last: Finished, m: Move) -> Next
+    ensures { λ r. ⌜ r ≡ madeOf theta last m ⌝ }
+{
+    match test(theta, last.best.x, m) {
+        Tested::Try(u, t) => asks(Waiting::Running(last, t, Asked::Update(u)), t.x),
+        Tested::Narrow(t, e) => asks(Waiting::Running(last, t, Asked::Between(e)), e.d),
+        Tested::End(outcome) => ended(Kept::Last(last), outcome),
+    }
 }

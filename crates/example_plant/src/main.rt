@@ -1,0 +1,100 @@
+// An example: a search over a plant model of one's own. The search asks a step, the model answers cost and slope there,
+// and every outcome is printed as a line. The second plant has a dead sensor: the search says so, and does not go on.
+use hagerzhang::Started;
+use hagerzhang::Turn;
+use hagerzhang_decisions::parameters;
+use hagerzhang_rules::Options;
+use libc::STDOUT_FILENO;
+use runs::Outcome;
+
+// ---- the plant
+
+// A chiller and the pump of its condenser water. More flow makes the chiller's work less and the pump's more. Above a
+// flow the sensor is dead.
+struct Plant {
+    chiller: f64,
+    pump: f64,
+    dead_above: f64,
+}
+
+// The power that both take at the flow x: a NaN where the sensor is dead.
+fn power(p: Plant, x: f64) -> f64 {
+    if p.dead_above < x {
+        return 0.0 / 0.0;
+    }
+    p.chiller / (x + 0.5) + p.pump * (x * x * x)
+}
+
+// How the power changes with the flow.
+fn slope(p: Plant, x: f64) -> f64 {
+    3.0 * p.pump * (x * x) - p.chiller / ((x + 0.5) * (x + 0.5))
+}
+
+// ---- the search
+
+// The defaults, with the flows between which the plant may run, and no flow as the first guess.
+fn options() -> Options {
+    let mut o = parameters::defaults();
+    o.params.min = 0.0;
+    o.params.max = 2.0;
+    o.params.start = 0.0;
+    o
+}
+
+fn print(text: &[u8], n: usize) {
+    if n <= text.len() {
+        io::write_all(STDOUT_FILENO, &text[..n]);
+    }
+}
+
+// The line of what the search says, with its evaluations and finished iterations.
+fn print_turn(t: Turn) {
+    let s = t.search;
+    let outcome = t.outcome;
+    let kept = hagerzhang::held(s);
+    let mut line = [0u8; 80];
+    let n = lines::outcome(&mut line, 0, outcome, s.evaluations, kept.iterations());
+    print(&line, n);
+}
+
+// The model answers each step that is asked, until the search ends. It ends by itself; a loop has to say so too, and
+// counts its turns down.
+fn answer_all(p: Plant, first: Turn) {
+    let mut t = first;
+    let mut turns: u32 = 4294967295;
+    while 0 < turns {
+        turns -= 1;
+        print_turn(t);
+        let s = t.search;
+        let outcome = t.outcome;
+        let Outcome::Ask(x) = outcome else {
+            return;
+        };
+        t = hagerzhang::answer(s, power(p, x), slope(p, x));
+    }
+}
+
+// A start may be refused too: then there is no search, and the number says why.
+fn optimise(p: Plant) {
+    match hagerzhang::start(options(), power(p, 0.0), slope(p, 0.0)) {
+        Started::Began(first) => answer_all(p, first),
+        Started::NoSearch(refusal) => {
+            let mut line = [0u8; 80];
+            let n = lines::refused(&mut line, 0, refusal.number());
+            print(&line, n);
+        }
+    }
+}
+
+fn main() {
+    optimise(Plant {
+        chiller: 2.0,
+        pump: 1.0,
+        dead_above: 100.0,
+    });
+    optimise(Plant {
+        chiller: 2.0,
+        pump: 1.0,
+        dead_above: 0.75,
+    });
+}
