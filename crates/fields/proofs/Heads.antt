@@ -1,4 +1,5 @@
--- What the head of a field says, by the places of the bytes; and what is known of a field that is whole. Assumes nothing.
+-- What the head of a field says, by the places of the bytes; and what is known of a field that is whole. Assumes
+-- nothing.
 use mathlib.Core.Path.{_≡_, refl, ap, _∙_}
 use mathlib.Core.Bool.{Bool, true, false, cond}
 use mathlib.Core.List.{List, [], _∷_, _++_}
@@ -9,7 +10,6 @@ use lib.Dec.{leb}
 use lib.ListN.{length, take, drop, length-append, length-drop}
 use lib.Seq.{length-take-le, take-append-le, drop-append-le}
 use Rattle.wire.specs.Wire.{byteAt, pairOf}
-use Rattle.fields.specs.declared.Heading.{Heading}
 use Rattle.fields.specs.declared.Heading.the-variants.{Tagged, Cut}
 use Rattle.fields.specs.Fields.{headOf, bodyOf, endOf}
 

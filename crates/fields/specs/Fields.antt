@@ -9,6 +9,7 @@ use Rattle.wire.specs.Wire.{pairOf}
 use Rattle.fields.specs.declared.Heading.{Heading}
 use Rattle.fields.specs.declared.Heading.the-variants.{Tagged, Cut}
 
+-- a field, and its bytes
 pub record Field : Type 0 where
   pub tag : ℕ
   pub body : List ℕ
@@ -18,17 +19,16 @@ written f = f .tag ∷ length (f .body) / 256 ∷ length (f .body) % 256 ∷ f .
 
 -- ---- the field with which bytes begin
 
--- its tag and the length of its body, where the body is whole
-abbrev pub wholeIn : List ℕ → ℕ → ℕ → Heading
-wholeIn rest tag n = cond (leb n (length rest)) (Tagged tag n) Cut
-
+-- its tag and the length of its body, where the body is whole; else it is cut
 unfoldable pub headOf : List ℕ → Heading
 headOf [] = Cut
 headOf (tag ∷ []) = Cut
 headOf (tag ∷ high ∷ []) = Cut
-headOf (tag ∷ high ∷ low ∷ rest) = wholeIn rest tag (pairOf (high ∷ low ∷ []))
+headOf (tag ∷ high ∷ low ∷ rest) =
+    let n = pairOf (high ∷ low ∷ []) in
+    cond (leb n (length rest)) (Tagged tag n) Cut
 
--- its body; of a field that is cut there is none
+-- its body; a field that is cut has none
 abbrev pub bodyBy : Heading → List ℕ → List ℕ
 bodyBy (Tagged tag n) s = take n (drop 3 s)
 bodyBy Cut s = []

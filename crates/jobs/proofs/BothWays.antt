@@ -16,7 +16,7 @@ use Rattle.fields.specs.Fields.{Field, written, headOf, bodyOf, endOf}
 use Rattle.fields.proofs.Heads.{end-there, body-length}
 use Rattle.fields.proofs.BothWays.{head-written, body-written, rest-written, low-byte, written-back}
 use Rattle.jobs.specs.declared.Job.{Job}
-use Rattle.jobs.specs.Format.{sizeOf, WellFormed, nothing, field, held, optionsOf, decoded, meansOf}
+use Rattle.jobs.specs.Format.{sizeOf, WellFormed, nothing, field, bodyUnder, optionsOf, decoded, meansOf}
 use Rattle.jobs.specs.Reader.{stands, found, behind, jobOf}
 use Rattle.jobs.proofs.Parts.{its-head}
 
@@ -43,8 +43,8 @@ module _ (f : Field) (s : List ℕ) where
   not-stands k n h = rw (head-written f s, h)
 
 -- ---- fields with tags above t hold no body of a tag up to t
-absent : {t : ℕ} {fs : List Field} {s : List ℕ} → WellFormed t fs s → (m : ℕ) → m ≤ t → held m fs ≡ none
-unfolding held
+absent : {t : ℕ} {fs : List Field} {s : List ℕ} → WellFormed t fs s → (m : ℕ) → m ≤ t → bodyUnder m fs ≡ none
+unfolding bodyUnder
 absent nothing m h = refl
 absent (field {f = f} above known more) m h =
     rw (ne-eqb (f .tag) m (λ (e : f .tag ≡ m). omega arith)) (absent more m (omega arith))
@@ -57,23 +57,23 @@ same-size m k n l e p q = cc
 record Passed (k n : ℕ) (fs : List Field) (s : List ℕ) : Type 0 where
   others : List Field
   holds : WellFormed k others (behind k n s)
-  body : found k n s ≡ held k fs
-  same : (m : ℕ) → k < m → held m others ≡ held m fs
+  body : found k n s ≡ bodyUnder k fs
+  same : (m : ℕ) → k < m → bodyUnder m others ≡ bodyUnder m fs
 
 record Left (t : ℕ) (all : List Field) (s : List ℕ) : Type 0 where
   fields : List Field
   holds : WellFormed t fields s
-  same : (m : ℕ) → t < m → held m fields ≡ held m all
+  same : (m : ℕ) → t < m → bodyUnder m fields ≡ bodyUnder m all
 
 module _ (t k n : ℕ) (next : k ≡ suc t) (known : sizeOf k ≡ some n) where
   at-end : Passed k n [] []
-  unfolding behind found stands headOf held
+  unfolding behind found stands headOf bodyUnder
   at-end = record { others = []; holds = nothing; body = refl; same = λ m h. refl }
 
   module _ (f : Field) (fs : List Field) (s : List ℕ) (above : t < f .tag)
       (size : sizeOf (f .tag) ≡ some (length (f .body))) (more : WellFormed (f .tag) fs s) where
     this-tag : eqb (f .tag) k ≡ true → Passed k n (f ∷ fs) (written f ++ s)
-    unfolding held
+    unfolding bodyUnder
     this-tag e =
         let p : f .tag ≡ k = eqb-true (f .tag) k e in
         let q : length (f .body) ≡ n = same-size (f .tag) k n (length (f .body)) p size known in
@@ -89,7 +89,7 @@ module _ (t k n : ℕ) (next : k ≡ suc t) (known : sizeOf k ≡ some n) where
         }
 
     other-tag : eqb (f .tag) k ≡ false → Passed k n (f ∷ fs) (written f ++ s)
-    unfolding behind found held
+    unfolding behind found bodyUnder
     other-tag e =
         let d = eqb-false (f .tag) k e in
         let b = not-stands f s k n e in
@@ -110,7 +110,7 @@ module _ (t k n : ℕ) (next : k ≡ suc t) (known : sizeOf k ≡ some n) where
       by-tag false e = other-tag f fs s' above size more e
 
   -- the same, for bytes that hold what is left of some fields
-  step : (all : List Field) (s : List ℕ) → Left t all s → (found k n s ≡ held k all) × Left k all (behind k n s)
+  step : (all : List Field) (s : List ℕ) → Left t all s → (found k n s ≡ bodyUnder k all) × Left k all (behind k n s)
   step all s a =
       let p = passed (a .fields) s (a .holds) in (
         p .body ∙ a .same k (omega arith),

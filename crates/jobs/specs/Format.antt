@@ -1,5 +1,5 @@
--- 01, "Sample curves and jobs": "A job is tagged fields", which fields/specs/Fields.antt has (`Field`, `written`); and
--- what it says.
+-- 01, "Sample curves and jobs": what a job is, and what it says. "A job is tagged fields": a `Field`, `written`, is
+-- defined in fields/specs/Fields.antt.
 use Prim.Native.Nat.{ℕ, _<_}
 use mathlib.Core.Path.{_≡_}
 use mathlib.Core.Bool.{cond}
@@ -35,9 +35,9 @@ pub data WellFormed : ℕ → List Field → List ℕ → Type 0 where
       → WellFormed (f .tag) fs s → WellFormed t (f ∷ fs) (written f ++ s)
 
 -- the body of the field with a tag, where there is one
-unfoldable pub held : ℕ → List Field → Option (List ℕ)
-held tag [] = none
-held tag (f ∷ fs) = cond (eqb (f .tag) tag) (some (f .body)) (held tag fs)
+unfoldable pub bodyUnder : ℕ → List Field → Option (List ℕ)
+bodyUnder tag [] = none
+bodyUnder tag (f ∷ fs) = cond (eqb (f .tag) tag) (some (f .body)) (bodyUnder tag fs)
 
 -- what a body says, or what stands in for it
 abbrev pub said : {A : Type 0} → (List ℕ → A) → Option (List ℕ) → A → A
@@ -73,4 +73,6 @@ decoded none options = refused 9
 decoded (some body) options = value (record { curve = byteAt body 0; options = options })
 
 abbrev pub meansOf : List Field → Result Job
-meansOf fs = decoded (held 1 fs) (optionsOf (held 2 fs) (held 3 fs) (held 4 fs) (held 5 fs) (held 6 fs))
+meansOf fs =
+    decoded (bodyUnder 1 fs)
+    (optionsOf (bodyUnder 2 fs) (bodyUnder 3 fs) (bodyUnder 4 fs) (bodyUnder 5 fs) (bodyUnder 6 fs))

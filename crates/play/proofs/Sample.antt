@@ -20,7 +20,7 @@ use Rattle.text.specs.Text.{bytes}
 use Rattle.lines.proofs.Samples.{samples}
 use Rattle.fields.specs.Fields.{Field}
 use Rattle.jobs.specs.declared.Job.{Job}
-use Rattle.jobs.specs.Format.{sizeOf, WellFormed, nothing, field, held, optionsOf, decoded, meansOf}
+use Rattle.jobs.specs.Format.{sizeOf, WellFormed, nothing, field, bodyUnder, optionsOf, decoded, meansOf}
 use Rattle.jobs.specs.Reader.{jobOf}
 use Rattle.jobs.proofs.BothWays.{job-read}
 use Rattle.jobs.specs.Opening.{curveOf, setupFor, jobRows}
@@ -74,7 +74,7 @@ j = record {
 }
 
 says : meansOf (curve ∷ bounds ∷ []) ≡ value j
-unfolding held optionsOf decoded
+unfolding bodyUnder optionsOf decoded
 says = refl
 
 is-job : jobOf job ≡ value j
