@@ -9,7 +9,7 @@ use native.Mathlib.Omega.{arith}
 use borrow.Author.Tests.{le-leb}
 use lib.ListN.{length, drop, length-append, take-append-drop}
 use lib.Seq.{take-append-seam, drop-append-seam, drop-drop}
-use Rattle.wire.specs.Wire.{byteAt}
+use Rattle.wire.specs.Wire.{byteAt, pairOf}
 use Rattle.fields.specs.declared.Heading.the-variants.{Tagged}
 use Rattle.fields.specs.Fields.{Field, written, headOf, bodyOf, endOf}
 use Rattle.fields.proofs.Heads.{opened, body-there, body-length, end-there}
@@ -19,8 +19,9 @@ module _ (f : Field) (s : List ℕ) where
   unfolding headOf
   head-written =
       let n = length (f .body) in
+      let size : pairOf (drop 1 (written f)) ≡ n = div-add-mod' n 256 in
       let long : n ≤ length (f .body ++ s) = simp length-append (omega arith) in
-      rw (div-add-mod' n 256, le-leb n (length (f .body ++ s)) long)
+      rw (size, le-leb n (length (f .body ++ s)) long)
 
   pub body-written : bodyOf (written f ++ s) ≡ f .body
   body-written = body-there (written f ++ s) (f .tag) (length (f .body)) head-written ∙ take-append-seam (f .body) s
