@@ -1,4 +1,5 @@
--- What a field that is not malformed may have: a body of at most 8,190 bytes, and lengths of at most 511. Assumes nothing.
+-- What a field that is not malformed may have: a body of at most 8,190 bytes, and lengths of at most 511. Assumes
+-- nothing.
 use mathlib.Core.Path.{_≡_, refl}
 use mathlib.Core.Bool.{Bool, true, false, cond, _&&_}
 use mathlib.Core.List.{List}
@@ -6,12 +7,31 @@ use Prim.Native.Nat.{ℕ, _+_, _*_, _<_, _≤_}
 use native.Mathlib.Omega.{arith}
 use borrow.Author.Tests.{leb-true, eqb-true}
 use lib.Dec.{eqb}
-use lib.ListN.{drop}
+use lib.ListN.{length, drop}
 use Rattle.floats.proofs.Branches.{and-first, and-second}
 use Rattle.wire.specs.Wire.{byteAt, pairOf}
+use Rattle.fields.specs.declared.Heading.{Heading}
+use Rattle.fields.specs.declared.Heading.the-variants.{Tagged, Cut}
+use Rattle.fields.specs.Fields.{headOf, bodyOf}
 use Rattle.case_files.specs.declared.Field.{Field}
-use Rattle.case_files.specs.declared.Field.the-variants.{StartHagerZhang, StartBacktracking, Answer, Dot, Point, Malformed}
-use Rattle.case_files.specs.CaseFiles.{isLength, isCondition, dotField, pointField, taggedField, readOf, Short}
+use Rattle.case_files.specs.declared.Field.the-variants.{
+  StartHagerZhang,
+  StartBacktracking,
+  Answer,
+  Dot,
+  Point,
+  Malformed,
+}
+use Rattle.case_files.specs.CaseFiles.{
+  isLength,
+  isCondition,
+  dotField,
+  pointField,
+  taggedField,
+  readBy,
+  readOf,
+  Short,
+}
 
 -- of a field whose body has this size
 abbrev Sound : ℕ → Field → Type 0
@@ -60,21 +80,26 @@ answer-sound size searching =
     (λ e. let s = eqb-true size 16 (and-second searching (eqb size 16) e) in omega arith) tt
 
 hager-zhang-sound : (size : ℕ) → Sound size (cond (eqb size 96) StartHagerZhang Malformed)
-hager-zhang-sound size = chosen (Sound size) (eqb size 96) StartHagerZhang Malformed (λ e. let s = eqb-true size 96 e in omega arith) tt
+hager-zhang-sound size =
+    chosen (Sound size) (eqb size 96) StartHagerZhang Malformed
+    (λ e. let s = eqb-true size 96 e in omega arith) tt
 
-backtracking-sound : (size : ℕ) (condition : Bool) → Sound size (cond (eqb size 53 && condition) StartBacktracking Malformed)
-backtracking-sound size condition =
-    chosen (Sound size) (eqb size 53 && condition) StartBacktracking Malformed
-    (λ e. let s = eqb-true size 53 (and-first (eqb size 53) condition e) in omega arith) tt
+backtracking-sound : (size : ℕ) (b : Bool) → Sound size (cond (eqb size 53 && b) StartBacktracking Malformed)
+backtracking-sound size b =
+    chosen (Sound size) (eqb size 53 && b) StartBacktracking Malformed
+    (λ e. let s = eqb-true size 53 (and-first (eqb size 53) b e) in omega arith) tt
 
-tagged-sound : (tag size : ℕ) (body : List ℕ) (searching : Bool) → Sound size (taggedField tag size body searching)
+tagged-sound : (tag : ℕ) (body : List ℕ) (searching : Bool) → Sound (length body) (taggedField tag body searching)
 unfolding taggedField
-tagged-sound tag size body searching =
+tagged-sound tag body searching =
+    let size = length body in
+    let n = pairOf body in
+    let m = pairOf (drop 2 body) in
     chosen (Sound size) (eqb tag 17) _ _ (λ e. answer-sound size searching)
     (chosen (Sound size) (eqb tag 32) _ _ (λ e. hager-zhang-sound size)
     (chosen (Sound size) (eqb tag 33) _ _ (λ e. backtracking-sound size (isCondition (byteAt body 0)))
-    (chosen (Sound size) (eqb tag 34) _ _ (λ e. dot-sound size (pairOf body) (pairOf (drop 2 body)))
-    (chosen (Sound size) (eqb tag 35) _ _ (λ e. point-sound size (pairOf body) (pairOf (drop 2 body)) (pairOf (drop 4 body))) tt))))
+    (chosen (Sound size) (eqb tag 34) _ _ (λ e. dot-sound size n m)
+    (chosen (Sound size) (eqb tag 35) _ _ (λ e. point-sound size n m (pairOf (drop 4 body))) tt))))
 
 -- ---- "Each length in 34 and 35 is at most 511."
 
@@ -86,12 +111,13 @@ short size (Dot n m) s = (s .1, s .2)
 short size (Point n m k) s = (s .1, s .2, s .3)
 short size Malformed s = tt
 
-tagged-short : (tag size : ℕ) (body : List ℕ) (searching : Bool) → Short (taggedField tag size body searching)
-tagged-short tag size body searching = short size (taggedField tag size body searching) (tagged-sound tag size body searching)
+by-head : (h : Heading) (body : List ℕ) (searching : Bool) → Short (readBy h body searching)
+by-head (Tagged tag n) body searching =
+    short (length body) (taggedField tag body searching) (tagged-sound tag body searching)
+by-head Cut body searching = tt
 
 pub read-short : (s : List ℕ) (searching : Bool) → Short (readOf s searching)
-unfolding readOf
-read-short s searching = search (chosen Short, tagged-short)
+read-short s searching = by-head (headOf s) (bodyOf s) searching
 
 -- ---- a body of more than 8,190 bytes is malformed, whatever its tag
 
@@ -103,5 +129,7 @@ none-sound size (Dot n m) h s = absurd (omega arith)
 none-sound size (Point n m k) h s = absurd (omega arith)
 none-sound size Malformed h s = refl
 
-pub long-malformed : (tag size : ℕ) (body : List ℕ) (searching : Bool) → 8190 < size → taggedField tag size body searching ≡ Malformed
-long-malformed tag size body searching h = none-sound size (taggedField tag size body searching) h (tagged-sound tag size body searching)
+pub long-malformed : (tag : ℕ) (body : List ℕ) (searching : Bool) → 8190 < length body
+    → taggedField tag body searching ≡ Malformed
+long-malformed tag body searching h =
+    none-sound (length body) (taggedField tag body searching) h (tagged-sound tag body searching)

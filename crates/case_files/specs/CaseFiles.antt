@@ -1,13 +1,23 @@
--- The fields of a case file, by docs/FORMATS.md, "A case file". Each definition takes the
--- bytes from where a field begins: all that are left, or at least as many as the longest well-formed field has.
+-- The fields of a case file, by docs/FORMATS.md, "A case file". `readOf` takes the bytes from where a field begins: all
+-- that are left, or at least as many as the longest well-formed field has.
 use Prim.Native.Nat.{ℕ, _+_, _*_, _≤_}
 use mathlib.Core.Bool.{Bool, cond, _&&_}
 use mathlib.Core.List.{List}
-use lib.Dec.{ltb, leb, eqb}
+use lib.Dec.{leb, eqb}
 use lib.ListN.{length, drop}
 use Rattle.wire.specs.Wire.{byteAt, pairOf}
+use Rattle.fields.specs.declared.Heading.{Heading}
+use Rattle.fields.specs.declared.Heading.the-variants.{Tagged, Cut}
+use Rattle.fields.specs.Fields.{headOf, bodyOf}
 use Rattle.case_files.specs.declared.Field.{Field}
-use Rattle.case_files.specs.declared.Field.the-variants.{StartHagerZhang, StartBacktracking, Answer, Dot, Point, Malformed}
+use Rattle.case_files.specs.declared.Field.the-variants.{
+  StartHagerZhang,
+  StartBacktracking,
+  Answer,
+  Dot,
+  Point,
+  Malformed,
+}
 
 -- "the condition in one byte, 1 Armijo, 2 Goldstein, 3 Wolfe, 4 strong Wolfe"
 abbrev pub isCondition : ℕ → Bool
@@ -23,11 +33,13 @@ dotField size n m = cond (isLength n && isLength m && eqb size (4 + 8 * (n + m))
 
 -- 35, point: "the lengths n of x0, m of d and that of the buffer in two bytes each; alpha; x0; d"
 unfoldable pub pointField : ℕ → ℕ → ℕ → ℕ → Field
-pointField size n m k = cond (isLength n && isLength m && isLength k && eqb size (14 + 8 * (n + m))) (Point n m k) Malformed
+pointField size n m k =
+    cond (isLength n && isLength m && isLength k && eqb size (14 + 8 * (n + m))) (Point n m k) Malformed
 
--- a field by its tag; `searching`: an answer has a 32 or 33 before it, and no 34 or 35 since
-unfoldable pub taggedField : ℕ → ℕ → List ℕ → Bool → Field
-taggedField tag size body searching =
+-- a field by its tag and body; `searching`: an answer has a 32 or 33 before it, and no 34 or 35 since
+unfoldable pub taggedField : ℕ → List ℕ → Bool → Field
+taggedField tag body searching =
+    let size = length body in
     cond (eqb tag 17) (cond (searching && eqb size 16) Answer Malformed)
     (cond (eqb tag 32) (cond (eqb size 96) StartHagerZhang Malformed)
     (cond (eqb tag 33) (cond (eqb size 53 && isCondition (byteAt body 0)) StartBacktracking Malformed)
@@ -35,11 +47,12 @@ taggedField tag size body searching =
     (cond (eqb tag 35) (pointField size (pairOf body) (pairOf (drop 2 body)) (pairOf (drop 4 body))) Malformed))))
 
 -- malformed, whatever its tag: "a field that the end of the input cuts"
-unfoldable pub readOf : List ℕ → Bool → Field
-readOf s searching =
-    let size = pairOf (drop 1 s) in
-    let body = drop 3 s in
-    cond (ltb (length s) 3) Malformed (cond (ltb (length body) size) Malformed (taggedField (byteAt s 0) size body searching))
+abbrev pub readBy : Heading → List ℕ → Bool → Field
+readBy (Tagged tag n) body searching = taggedField tag body searching
+readBy Cut body searching = Malformed
+
+abbrev pub readOf : List ℕ → Bool → Field
+readOf s searching = readBy (headOf s) (bodyOf s) searching
 
 -- "The lengths in 34 and 35 are at most 511", of a field that was read
 abbrev pub Short : Field → Type 0

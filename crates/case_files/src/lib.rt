@@ -1,5 +1,6 @@
-// The fields of a case file: which one stands at a place.
+// The fields of a case file: which tags there are, and which bodies they want.
 
+use fields::Heading;
 ghost use mathlib.Core.Path.{_≡_};
 ghost use Rattle.case_files.specs.CaseFiles.{isCondition, dotField, pointField, taggedField, readOf};
 
@@ -57,9 +58,10 @@ fn point_field(size: usize, n: usize, m: usize, k: usize) -> Field
     Field::Malformed
 }
 
-fn tagged_field(tag: u8, size: usize, body: &[u8], searching: bool) -> Field
-    ensures { λ r. ⌜ r ≡ taggedField tag size (now (body .entry)) searching ⌝ }
+fn tagged_field(tag: u8, body: &[u8], searching: bool) -> Field
+    ensures { λ r. ⌜ r ≡ taggedField tag (now (body .entry)) searching ⌝ }
 {
+    let size = body.len();
     if tag == 17 {
         if searching & (size == 16) {
             return Field::Answer;
@@ -97,13 +99,8 @@ fn tagged_field(tag: u8, size: usize, body: &[u8], searching: bool) -> Field
 pub fn read(s: &[u8], searching: bool) -> Field
     ensures { λ r. ⌜ r ≡ readOf (now (s .entry)) searching ⌝ }
 {
-    let size = wire::pair(wire::from(s, 1));
-    let body = wire::from(s, 3);
-    if s.len() < 3 {
-        return Field::Malformed;
+    match fields::head(s) {
+        Heading::Tagged(tag, _) => tagged_field(tag, fields::body(s), searching),
+        Heading::Cut => Field::Malformed,
     }
-    if body.len() < size {
-        return Field::Malformed;
-    }
-    tagged_field(wire::byte(s, 0), size, body, searching)
 }

@@ -22,15 +22,7 @@ pub(crate) fn beyond(buf: &[u8], from: usize, to: usize) -> usize
     requires { ⌜ (from < to) × (to ≤ length (now buf)) ⌝ }
     ensures { λ r. ⌜ r ≤ to ⌝ }
 {
-    let size = wire::pair(wire::from(buf, from + 1));
-    let left = to - from;
-    if left <= 3 {
-        return to;
-    }
-    if left - 3 < size {
-        return to;
-    }
-    from + 3 + size
+    from + fields::end(&buf[from..to])
 }
 
 // The byte of the input at a place of the buffer, which begins with byte b.

@@ -81,7 +81,7 @@ fn begun(out: &mut [u8], at: usize, cases: u64, field: Field, body: &[u8]) -> Pr
 // The field with which s begins, at byte b of the input. All but an answer end the case before.
 fn served(out: &mut [u8], s: &[u8], progress: Progress, b: u64) -> Progress {
     let current = progress.current;
-    let body = wire::from(s, 3);
+    let body = fields::body(s);
     let field = case_files::read(s, searches::searching(current));
     if let Field::Answer = field {
         return told(

@@ -11,11 +11,12 @@ use Rattle.vectors.proofs.Untouched.{buffers-untouched}
 use Rattle.conditions.specs.Conditions.{conditionRows}
 use Rattle.curves.specs.Curves.{curveRows}
 use Rattle.hagerzhang_rules.specs.Parameters.{startRows}
+use Rattle.fields.specs.Fields.{Field}
 use Rattle.jobs.specs.declared.Job.{Job}
-use Rattle.jobs.specs.Format.{Field, WellFormed, meansOf}
+use Rattle.jobs.specs.Format.{WellFormed, meansOf}
 use Rattle.jobs.proofs.BothWays.{job-read, no-job-refused}
 use Rattle.jobs.specs.declared.Opened.{Opened}
-use Rattle.jobs.specs.Opening.{jobRows, beginsBy, openedTold, BeginSaid}
+use Rattle.jobs.specs.Opening.{jobRows, begunBy, openedTold, BeginSaid}
 use Rattle.demands.specs.Demand1.{Demand1}
 use Rattle.demands.proofs.Answered.{answered}
 use Rattle.demands.proofs.Refused.{refused-rightly}
@@ -25,7 +26,7 @@ job-table : (bytes : List ℕ) (r : Opened) → BeginSaid bytes r → (fs : List
     → Table (refusedBy (openedTold r)) (jobRows j)
 unfolding inOrder
 job-table bytes r said fs j holds means = record {
-  exactly = ap refusedBy (said ∙ ap beginsBy (job-read bytes fs j holds means)) ∙ by-rows (jobRows j) _;
+  exactly = ap refusedBy (said ∙ ap begunBy (job-read bytes fs j holds means)) ∙ by-rows (jobRows j) _;
   ordered = refl;
 }
 
@@ -43,7 +44,7 @@ demand1 = record {
   start = λ o f0 s0 r said. record { exactly = ap refusedBy said ∙ by-rows (startRows o f0 s0) _; ordered = refl };
   job-read = λ bytes r said fs j holds means. said ∙ job-read bytes fs j holds means;
   no-job = λ bytes r said none. said ∙ no-job-refused bytes none;
-  no-job-begun = λ bytes r said none. said ∙ ap beginsBy (no-job-refused bytes none);
+  no-job-begun = λ bytes r said none. said ∙ ap begunBy (no-job-refused bytes none);
   job = job-table;
   answer = answered;
   curve-answer = λ s c x r said runs amiss. answered s _ _ r said .early 2 (rw (runs, amiss));

@@ -6,8 +6,7 @@ use Rattle.vectors.proofs.Determined.{dot-determined, point-determined}
 use Rattle.runs.proofs.Determined.{told-determined}
 use Rattle.conditions.proofs.Determined.{checked-determined}
 use Rattle.curves.proofs.Determined.{numbered-determined}
-use Rattle.jobs.proofs.Determined.{read-determined}
-use Rattle.jobs.proofs.OpenedDetermined.{begin-determined}
+use Rattle.jobs.proofs.Determined.{read-determined, begin-determined}
 use Rattle.play.proofs.Determined.{play-determined}
 use Rattle.backtracking.proofs.Determined as trials
 use Rattle.hagerzhang.proofs.Determined.{start-determined, answer-determined}

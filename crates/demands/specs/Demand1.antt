@@ -36,8 +36,9 @@ use Rattle.hagerzhang_rules.specs.declared.Setup.{Setup}
 use Rattle.hagerzhang_rules.specs.Parameters.{setupOf, startRows}
 use Rattle.hagerzhang_rules.specs.Rules.{answerFinite, middleOf, Summary, Report, last}
 use Rattle.hagerzhang_rules.specs.Iterations.{standing, had, AskedBecause, EndedBecause}
+use Rattle.fields.specs.Fields.{Field}
 use Rattle.jobs.specs.declared.Job.{Job}
-use Rattle.jobs.specs.Format.{Field, WellFormed, meansOf}
+use Rattle.jobs.specs.Format.{WellFormed, meansOf}
 use Rattle.jobs.specs.declared.Reading.{Reading}
 use Rattle.jobs.specs.Reader.{readTold, ReadSaid}
 use Rattle.jobs.specs.declared.Opened.{Opened}

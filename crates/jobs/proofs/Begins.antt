@@ -16,7 +16,7 @@ use Rattle.hagerzhang.specs.declared.state.Turn.{Turn}
 use Rattle.hagerzhang.specs.Machine.{freshOf, startOf}
 use Rattle.jobs.specs.declared.Job.{Job}
 use Rattle.jobs.specs.Reader.{jobOf}
-use Rattle.jobs.specs.Opening.{curveOf, f0Of, s0Of, setupFor, jobRows, beginsBy, beginOf}
+use Rattle.jobs.specs.Opening.{curveOf, f0Of, s0Of, setupFor, jobRows, begunBy, beginOf}
 use Rattle.jobs.proofs.AtZero.{f0-finite, s0-finite}
 
 -- where no row of a job holds, none of a start does
@@ -38,7 +38,7 @@ pub record Begins (bytes : List ℕ) (c : Curve) (t : Turn) : Type 0 where
   pub started : startOf (job .options) (f0Of job) (s0Of job) ≡ value t
 
 module _ (bytes : List ℕ) (c : Curve) (t : Turn) where
-  with-job : (a : Result Job) → jobOf bytes ≡ a → beginsBy a ≡ value (c, t) → Begins bytes c t
+  with-job : (a : Result Job) → jobOf bytes ≡ a → begunBy a ≡ value (c, t) → Begins bytes c t
   with-job (value j) is h =
       let p = passed (jobRows j) (curveOf j, freshOf (setupFor j)) (c, t) h in
       let step : freshOf (setupFor j) ≡ t = ap (λ (q : Curve × Turn). q .1) (p .1) in

@@ -2,55 +2,49 @@
 -- (`job-read`); whatever is read as a job is such bytes (`read-is-format`); and any others are refused by 9
 -- (`no-job-refused`). The longest job has 55 bytes (`longest`). Assumes nothing.
 use mathlib.Core.Path.{_≡_, refl, sym, ap, ap₂, _∙_, subst}
-use mathlib.Core.Bool.{Bool, true, false, cond, _&&_}
+use mathlib.Core.Bool.{Bool, true, false, cond}
 use mathlib.Core.List.{List, [], _∷_, _++_}
 use mathlib.Core.Option.{Option, some, none}
-use Prim.Native.Nat.{ℕ, suc, _+_, _-_, _*_, _/_, _%_, _≤_, _<_}
-use native.Mathlib.Nat.{div-add-mod'}
+use Prim.Native.Nat.{ℕ, suc, _+_, _≤_, _<_}
 use native.Mathlib.Omega.{arith}
-use lib.Dec.{leb, eqb}
-use lib.ListN.{length, take, drop, length-append, length-drop, take-append-drop}
-use lib.Seq.{take-append-seam, drop-append-seam, drop-drop, length-take-le}
-use borrow.Author.Tests.{le-leb, lt-leb, eq-eqb, ne-eqb, leb-true, eqb-true, eqb-false}
-use Rattle.floats.proofs.Branches.{and-first, and-second}
+use lib.Dec.{eqb}
+use lib.ListN.{length, drop, length-drop}
+use borrow.Author.Tests.{eq-eqb, ne-eqb, eqb-true, eqb-false}
 use Rattle.refusals.specs.Results.{Result, value, refused}
 use Rattle.hagerzhang_rules.specs.declared.Options.{Options}
-use Rattle.wire.specs.Wire.{byteAt, pairOf}
+use Rattle.fields.specs.Fields.{Field, written, headOf, bodyOf, endOf}
+use Rattle.fields.proofs.Heads.{end-there, body-length}
+use Rattle.fields.proofs.BothWays.{head-written, body-written, rest-written, low-byte, written-back}
 use Rattle.jobs.specs.declared.Job.{Job}
-use Rattle.jobs.specs.Format.{Field, written, sizeOf, WellFormed, nothing, field, bodyOf, optionsOf, decoded, meansOf}
-use Rattle.jobs.specs.Reader.{begins, found, behind, jobOf}
+use Rattle.jobs.specs.Format.{sizeOf, WellFormed, nothing, field, bodyUnder, optionsOf, decoded, meansOf}
+use Rattle.jobs.specs.Reader.{stands, found, behind, jobOf}
+use Rattle.jobs.proofs.Parts.{its-head}
 
 -- ---- a written field is found, and no other
 
 module _ (f : Field) (s : List ℕ) where
-  begins-written : begins (f .tag) (length (f .body)) (written f ++ s) ≡ true
-  unfolding begins
-  begins-written =
+  stands-written : stands (f .tag) (length (f .body)) (written f ++ s) ≡ true
+  unfolding stands
+  stands-written =
       let n = length (f .body) in
-      let l : 3 + n ≤ length (written f ++ s) = simp length-append (omega arith) in
-      let same : eqb (n / 256 * 256 + n % 256) n ≡ true = eq-eqb (n / 256 * 256 + n % 256) n (div-add-mod' n 256) in
-      rw (le-leb (3 + n) (length (written f ++ s)) l, eq-eqb (f .tag) (f .tag) refl, same)
+      rw (head-written f s, eq-eqb (f .tag) (f .tag) refl, eq-eqb n n refl)
 
-  body-written : found (f .tag) (length (f .body)) (written f ++ s) ≡ some (f .body)
+  found-written : found (f .tag) (length (f .body)) (written f ++ s) ≡ some (f .body)
   unfolding found
-  body-written = rw (begins-written, take-append-seam (f .body) s)
+  found-written = rw (stands-written, body-written f s)
 
   behind-written : behind (f .tag) (length (f .body)) (written f ++ s) ≡ s
   unfolding behind
-  behind-written = rw (begins-written, ← drop-drop (length (f .body)) 3 (written f ++ s), drop-append-seam (f .body) s)
+  behind-written = rw (stands-written, rest-written f s)
 
   -- a field with another tag is not this one
-  not-begins : (k n : ℕ) → eqb (f .tag) k ≡ false → begins k n (written f ++ s) ≡ false
-  unfolding begins
-  not-begins k n h = rw h (pick (leb (3 + n) (length (written f ++ s))) (eqb (pairOf (drop 1 (written f ++ s))) n))
-    where
-      pick : (a b : Bool) → (a && false && b) ≡ false
-      pick true b = refl
-      pick false b = refl
+  not-stands : (k n : ℕ) → eqb (f .tag) k ≡ false → stands k n (written f ++ s) ≡ false
+  unfolding stands
+  not-stands k n h = rw (head-written f s, h)
 
 -- ---- fields with tags above t hold no body of a tag up to t
-absent : {t : ℕ} {fs : List Field} {s : List ℕ} → WellFormed t fs s → (m : ℕ) → m ≤ t → bodyOf m fs ≡ none
-unfolding bodyOf
+absent : {t : ℕ} {fs : List Field} {s : List ℕ} → WellFormed t fs s → (m : ℕ) → m ≤ t → bodyUnder m fs ≡ none
+unfolding bodyUnder
 absent nothing m h = refl
 absent (field {f = f} above known more) m h =
     rw (ne-eqb (f .tag) m (λ (e : f .tag ≡ m). omega arith)) (absent more m (omega arith))
@@ -63,32 +57,30 @@ same-size m k n l e p q = cc
 record Passed (k n : ℕ) (fs : List Field) (s : List ℕ) : Type 0 where
   others : List Field
   holds : WellFormed k others (behind k n s)
-  body : found k n s ≡ bodyOf k fs
-  same : (m : ℕ) → k < m → bodyOf m others ≡ bodyOf m fs
+  body : found k n s ≡ bodyUnder k fs
+  same : (m : ℕ) → k < m → bodyUnder m others ≡ bodyUnder m fs
 
 record Left (t : ℕ) (all : List Field) (s : List ℕ) : Type 0 where
   fields : List Field
   holds : WellFormed t fields s
-  same : (m : ℕ) → t < m → bodyOf m fields ≡ bodyOf m all
+  same : (m : ℕ) → t < m → bodyUnder m fields ≡ bodyUnder m all
 
 module _ (t k n : ℕ) (next : k ≡ suc t) (known : sizeOf k ≡ some n) where
   at-end : Passed k n [] []
-  unfolding behind found begins bodyOf
-  at-end =
-      let e : leb (3 + n) 0 ≡ false = lt-leb (3 + n) 0 (omega arith) in
-      record { others = []; holds = rw e nothing; body = rw e; same = λ m h. refl }
+  unfolding behind found stands headOf bodyUnder
+  at-end = record { others = []; holds = nothing; body = refl; same = λ m h. refl }
 
   module _ (f : Field) (fs : List Field) (s : List ℕ) (above : t < f .tag)
       (size : sizeOf (f .tag) ≡ some (length (f .body))) (more : WellFormed (f .tag) fs s) where
     this-tag : eqb (f .tag) k ≡ true → Passed k n (f ∷ fs) (written f ++ s)
-    unfolding bodyOf
+    unfolding bodyUnder
     this-tag e =
         let p : f .tag ≡ k = eqb-true (f .tag) k e in
         let q : length (f .body) ≡ n = same-size (f .tag) k n (length (f .body)) p size known in
         let b : behind k n (written f ++ s) ≡ s =
         ap₂ (λ (i j : ℕ). behind i j (written f ++ s)) (sym p) (sym q) ∙ behind-written f s in
         let w : found k n (written f ++ s) ≡ some (f .body) =
-        ap₂ (λ (i j : ℕ). found i j (written f ++ s)) (sym p) (sym q) ∙ body-written f s in
+        ap₂ (λ (i j : ℕ). found i j (written f ++ s)) (sym p) (sym q) ∙ found-written f s in
         record {
           others = fs;
           holds = rw b (subst (λ (i : ℕ). WellFormed i fs s) p more);
@@ -97,10 +89,10 @@ module _ (t k n : ℕ) (next : k ≡ suc t) (known : sizeOf k ≡ some n) where
         }
 
     other-tag : eqb (f .tag) k ≡ false → Passed k n (f ∷ fs) (written f ++ s)
-    unfolding behind found bodyOf
+    unfolding behind found bodyUnder
     other-tag e =
         let d = eqb-false (f .tag) k e in
-        let b = not-begins f s k n e in
+        let b = not-stands f s k n e in
         let l : k < f .tag = omega arith in
         record {
           others = f ∷ fs;
@@ -118,7 +110,7 @@ module _ (t k n : ℕ) (next : k ≡ suc t) (known : sizeOf k ≡ some n) where
       by-tag false e = other-tag f fs s' above size more e
 
   -- the same, for bytes that hold what is left of some fields
-  step : (all : List Field) (s : List ℕ) → Left t all s → (found k n s ≡ bodyOf k all) × Left k all (behind k n s)
+  step : (all : List Field) (s : List ℕ) → Left t all s → (found k n s ≡ bodyUnder k all) × Left k all (behind k n s)
   step all s a =
       let p = passed (a .fields) s (a .holds) in (
         p .body ∙ a .same k (omega arith),
@@ -166,58 +158,20 @@ weaker : {k : ℕ} {fs : List Field} {s : List ℕ} (t : ℕ) → t ≤ k → We
 weaker t l nothing = nothing
 weaker t l (field {t = k} {f = f} above size more) = let a : t < f .tag = omega arith in field a size more
 
--- the bytes of a field that is there, for the short bodies that 01 has
-record Begun (k n : ℕ) (s : List ℕ) : Type 0 where
-  long : 3 + n ≤ length s
-  tag : byteAt s 0 ≡ k
-  size : pairOf (drop 1 s) ≡ n
-
-begun : (k n : ℕ) (s : List ℕ) → begins k n s ≡ true → Begun k n s
-unfolding begins
-begun k n s h =
-    let l = leb (3 + n) (length s) in
-    let t = eqb (byteAt s 0) k in
-    let p = eqb (pairOf (drop 1 s)) n in
-    record {
-      long = leb-true (3 + n) (length s) (and-first l t (and-first (l && t) p h));
-      tag = eqb-true (byteAt s 0) k (and-second l t (and-first (l && t) p h));
-      size = eqb-true (pairOf (drop 1 s)) n (and-second (l && t) p h);
-    }
-
-split : (k n : ℕ) (s : List ℕ) → n < 256 → n / 256 ≡ 0 → n % 256 ≡ n → Begun k n s
-    → s ≡ written (record { tag = k; body = take n (drop 3 s) }) ++ drop (3 + n) s
-split k n [] small hi lo h = absurd (let l = h .long in omega arith)
-split k n (a ∷ []) small hi lo h = absurd (let l = h .long in omega arith)
-split k n (a ∷ b ∷ []) small hi lo h = absurd (let l = h .long in omega arith)
-split k n (a ∷ b ∷ c ∷ s) small hi lo h =
-    let l = h .long in
-    let z = h .size in
-    let first : b ≡ 0 = omega arith in
-    let second : c ≡ n = omega arith in
-    let len : length (take n s) ≡ n = length-take-le n s (omega arith) in
-    let back : drop (3 + n) (a ∷ b ∷ c ∷ s) ≡ drop n s = sym (drop-drop n 3 (a ∷ b ∷ c ∷ s)) in
-    rw (len, hi, lo, back, first, second, h .tag, take-append-drop n s)
-
-abbrev first : ℕ → ℕ → List ℕ → Field
-first k n s = record { tag = k; body = take n (drop 3 s) }
-
-back : (t k n : ℕ) → t < k → sizeOf k ≡ some n → n < 256 → n / 256 ≡ 0 → n % 256 ≡ n → (s : List ℕ)
-    → Formed k (behind k n s) → Formed t s
+back : (t k n : ℕ) → t < k → sizeOf k ≡ some n → n < 256 → (s : List ℕ) → Formed k (behind k n s) → Formed t s
 unfolding behind
-back t k n above known small hi lo s m = by-test (begins k n s) refl
+back t k n above known small s m = by-test (stands k n s) refl
   where
-    by-test : (b : Bool) → begins k n s ≡ b → Formed t s
+    by-test : (b : Bool) → stands k n s ≡ b → Formed t s
     by-test true e =
-        let g = begun k n s e in
-        let long = g .long in
-        let len : length (take n (drop 3 s)) ≡ n = length-take-le n (drop 3 s) (simp length-drop (omega arith)) in
-        let size : sizeOf k ≡ some (length (take n (drop 3 s))) = known ∙ ap some (sym len) in
-        let rest : WellFormed k (m .fields) (drop (3 + n) s) = rw e at (m .holds) in
-        let whole : WellFormed t (first k n s ∷ m .fields) (written (first k n s) ++ drop (3 + n) s) =
-        field above size rest in
+        let h = its-head k n s e in
+        let f : Field = record { tag = k; body = bodyOf s } in
+        let size : sizeOf k ≡ some (length (bodyOf s)) = known ∙ ap some (sym (body-length s k n h)) in
+        let rest : WellFormed k (m .fields) (drop (endOf s) s) = rw e at (m .holds) in
+        let whole : WellFormed t (f ∷ m .fields) (written f ++ drop (endOf s) s) = field above size rest in
         record {
-          fields = first k n s ∷ m .fields;
-          holds = subst (λ (l : List ℕ). WellFormed t (first k n s ∷ m .fields) l) (sym (split k n s small hi lo g)) whole;
+          fields = f ∷ m .fields;
+          holds = subst (WellFormed t (f ∷ m .fields)) (sym (written-back s k n h (low-byte s k n h small))) whole;
         }
     by-test false e = record { fields = m .fields; holds = weaker t (omega arith) (rw e at (m .holds)) }
 
@@ -241,12 +195,12 @@ whole s1 =
 formed : (s : List ℕ) → length (left s) ≡ 0 → Formed 0 s
 unfolding sizeOf
 formed s h =
-    back 0 1 1 (omega arith) refl (omega arith) refl refl s
-    (back 1 2 16 (omega arith) refl (omega arith) refl refl _
-    (back 2 3 8 (omega arith) refl (omega arith) refl refl _
-    (back 3 4 8 (omega arith) refl (omega arith) refl refl _
-    (back 4 5 2 (omega arith) refl (omega arith) refl refl _
-    (back 5 6 2 (omega arith) refl (omega arith) refl refl _ (at-the-end (left s) h))))))
+    back 0 1 1 (omega arith) refl (omega arith) s
+    (back 1 2 16 (omega arith) refl (omega arith) _
+    (back 2 3 8 (omega arith) refl (omega arith) _
+    (back 3 4 8 (omega arith) refl (omega arith) _
+    (back 4 5 2 (omega arith) refl (omega arith) _
+    (back 5 6 2 (omega arith) refl (omega arith) _ (at-the-end (left s) h))))))
 
 -- fields in 01's form that say the job j
 pub record Encodes (s : List ℕ) (j : Job) : Type 0 where
@@ -295,11 +249,11 @@ no-job-refused s never = refused-otherwise s (λ j e. never (e .fields) j (e .ho
 -- three bytes: at most 55
 shortens : (k n : ℕ) (s : List ℕ) → length s ≤ 3 + n + length (behind k n s)
 unfolding behind
-shortens k n s = by-test (begins k n s)
+shortens k n s = by-test (stands k n s) refl
   where
-    by-test : (b : Bool) → length s ≤ 3 + n + length (cond b (drop (3 + n) s) s)
-    by-test true = let l : length (drop (3 + n) s) ≡ length s - (3 + n) = length-drop (3 + n) s in omega arith
-    by-test false = omega arith
+    by-test : (b : Bool) → stands k n s ≡ b → length s ≤ 3 + n + length (cond b (drop (endOf s) s) s)
+    by-test true e = omega (arith, length-drop (endOf s) s, end-there s k n (its-head k n s e))
+    by-test false e = omega arith
 
 pub longest : (s : List ℕ) (j : Job) → jobOf s ≡ value j → length s ≤ 55
 longest s1 j e =

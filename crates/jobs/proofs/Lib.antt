@@ -5,4 +5,3 @@ pub mod Determined
 pub mod AtZero
 pub mod Refusals
 pub mod Begins
-pub mod OpenedDetermined

@@ -14,7 +14,7 @@ use Rattle.curves.specs.Curves.{hasNumber, numberedAt, curveRows, numberedOf}
 use Rattle.hagerzhang.specs.declared.state.Turn.{Turn}
 use Rattle.hagerzhang.specs.Machine.{freshOf}
 use Rattle.jobs.specs.declared.Job.{Job}
-use Rattle.jobs.specs.Opening.{curveOf, f0Of, setupFor, beginsBy, overCurve}
+use Rattle.jobs.specs.Opening.{curveOf, f0Of, setupFor, begunBy, overCurve}
 use Rattle.jobs.proofs.AtZero.{f0-finite, s0-finite}
 
 -- what a start comes to, with the curve beside it
@@ -36,20 +36,20 @@ has-number : (n : ℕ) → Passed (curveRows n) → hasNumber n ≡ true
 has-number n (and three all) = not-false _ three
 
 module _ (j : Job) where
-  pub not-finite : paramsFinite (j .options .params) ≡ false → refused 2 ≡ beginsBy (value j)
+  pub not-finite : paramsFinite (j .options .params) ≡ false → refused 2 ≡ begunBy (value j)
   not-finite h = rw h
 
   module _ (fine : paramsFinite (j .options .params) ≡ true) where
-    over-curve : hasNumber (j .curve) ≡ true → overCurve (curveOf j) (j .options) ≡ beginsBy (value j)
+    over-curve : hasNumber (j .curve) ≡ true → overCurve (curveOf j) (j .options) ≡ begunBy (value j)
     over-curve h = rw (fine, h, f0-finite j h, s0-finite j h)
 
     -- by what the curves' own table answers
-    pub found-curve : (c : Curve) → value c ≡ numberedOf (j .curve) → overCurve c (j .options) ≡ beginsBy (value j)
+    pub found-curve : (c : Curve) → value c ≡ numberedOf (j .curve) → overCurve c (j .options) ≡ begunBy (value j)
     found-curve c e =
         let p = passed (curveRows (j .curve)) (numberedAt (j .curve)) c (sym e) in
         ap (λ (d : Curve). overCurve d (j .options)) (sym (p .1)) ∙ over-curve (has-number (j .curve) (p .0))
 
-    pub unknown-curve : (n : ℕ) → refused n ≡ numberedOf (j .curve) → refused n ≡ beginsBy (value j)
+    pub unknown-curve : (n : ℕ) → refused n ≡ numberedOf (j .curve) → refused n ≡ begunBy (value j)
     unknown-curve n e =
         let rows = rangeRows (j .options) (f0Of j) in
         let begun : Curve × Turn = (curveOf j, freshOf (setupFor j)) in

@@ -1,5 +1,6 @@
--- 01, "Sample curves and jobs": what a job is, and what it says.
-use Prim.Native.Nat.{ℕ, _<_, _/_, _%_}
+-- 01, "Sample curves and jobs": what a job is, and what it says. "A job is tagged fields": a `Field`, `written`, is
+-- defined in fields/specs/Fields.antt.
+use Prim.Native.Nat.{ℕ, _<_}
 use mathlib.Core.Path.{_≡_}
 use mathlib.Core.Bool.{cond}
 use mathlib.Core.List.{List, [], _∷_, _++_}
@@ -9,17 +10,10 @@ use lib.ListN.{length, drop}
 use lib.Ieee.{Float}
 use Rattle.refusals.specs.Results.{Result, value, refused}
 use Rattle.wire.specs.Wire.{byteAt, pairOf, floatOf}
+use Rattle.fields.specs.Fields.{Field, written}
 use Rattle.hagerzhang_rules.specs.declared.Options.{Options}
 use Rattle.hagerzhang_rules.specs.Parameters.{defaultOptions}
 use Rattle.jobs.specs.declared.Job.{Job}
-
--- "A job is tagged fields: one-byte tag, two-byte length, body, most significant byte first"
-pub record Field : Type 0 where
-  pub tag : ℕ
-  pub body : List ℕ
-
-abbrev pub written : Field → List ℕ
-written f = f .tag ∷ length (f .body) / 256 ∷ length (f .body) % 256 ∷ f .body
 
 -- "Tags: 1 curve (1 byte, required), 2 bounds (16), 3 start step (8), 4 epsilon (8), 5 B (2), 6 N (2)": how long the
 -- body of each is
@@ -41,9 +35,9 @@ pub data WellFormed : ℕ → List Field → List ℕ → Type 0 where
       → WellFormed (f .tag) fs s → WellFormed t (f ∷ fs) (written f ++ s)
 
 -- the body of the field with a tag, where there is one
-unfoldable pub bodyOf : ℕ → List Field → Option (List ℕ)
-bodyOf tag [] = none
-bodyOf tag (f ∷ fs) = cond (eqb (f .tag) tag) (some (f .body)) (bodyOf tag fs)
+unfoldable pub bodyUnder : ℕ → List Field → Option (List ℕ)
+bodyUnder tag [] = none
+bodyUnder tag (f ∷ fs) = cond (eqb (f .tag) tag) (some (f .body)) (bodyUnder tag fs)
 
 -- what a body says, or what stands in for it
 abbrev pub said : {A : Type 0} → (List ℕ → A) → Option (List ℕ) → A → A
@@ -79,4 +73,6 @@ decoded none options = refused 9
 decoded (some body) options = value (record { curve = byteAt body 0; options = options })
 
 abbrev pub meansOf : List Field → Result Job
-meansOf fs = decoded (bodyOf 1 fs) (optionsOf (bodyOf 2 fs) (bodyOf 3 fs) (bodyOf 4 fs) (bodyOf 5 fs) (bodyOf 6 fs))
+meansOf fs =
+    decoded (bodyUnder 1 fs)
+    (optionsOf (bodyUnder 2 fs) (bodyUnder 3 fs) (bodyUnder 4 fs) (bodyUnder 5 fs) (bodyUnder 6 fs))

@@ -40,15 +40,15 @@ jobRows j =
     (2, not (paramsFinite (j .options .params))) ∷ (3, not (hasNumber (j .curve))) ∷ rangeRows (j .options) (f0Of j)
 
 -- 9, "the job is malformed", comes before all these. The search that has asked its first step, a = min, is `freshOf`
-abbrev pub beginsBy : Result Job → Result (Curve × Turn)
-beginsBy (value j) = refuse (jobRows j) else (curveOf j, freshOf (setupFor j))
-beginsBy (refused n) = refused n
+abbrev pub begunBy : Result Job → Result (Curve × Turn)
+begunBy (value j) = refuse (jobRows j) else (curveOf j, freshOf (setupFor j))
+begunBy (refused n) = refused n
 
 -- the curve and the search that a job begins, for any bytes
 abbrev pub beginOf : List ℕ → Result (Curve × Turn)
-beginOf bytes = beginsBy (jobOf bytes)
+beginOf bytes = begunBy (jobOf bytes)
 
--- a start over a curve, by its own rows: what `search_over` comes to. Where the job's first two rows do not hold, it is
+-- a start over a curve, by its own rows. Where the job's first two rows do not hold, it is
 -- what the job begins (proofs/Refusals.antt)
 abbrev pub overCurve : Curve → Options → Result (Curve × Turn)
 overCurve c o =

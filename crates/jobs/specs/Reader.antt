@@ -1,30 +1,36 @@
 -- How a job is read, for any bytes at all: in the order of the tags each field is there or not, and nothing may be
 -- left. That this reads 01's format, no less and no more, is proved in proofs/BothWays.antt.
-use Prim.Native.Nat.{ℕ, _+_}
+use Prim.Native.Nat.{ℕ}
 use mathlib.Core.Path.{_≡_}
-use mathlib.Core.Bool.{Bool, cond, _&&_}
+use mathlib.Core.Bool.{Bool, false, cond, _&&_}
 use mathlib.Core.List.{List}
 use mathlib.Core.Option.{Option, some, none}
-use lib.Dec.{leb, eqb}
-use lib.ListN.{length, take, drop}
+use lib.Dec.{eqb}
+use lib.ListN.{length, drop}
 use Rattle.refusals.specs.Results.{Result, value, refused}
 use Rattle.hagerzhang_rules.specs.declared.Options.{Options}
-use Rattle.wire.specs.Wire.{byteAt, pairOf}
+use Rattle.fields.specs.declared.Heading.{Heading}
+use Rattle.fields.specs.declared.Heading.the-variants.{Tagged, Cut}
+use Rattle.fields.specs.Fields.{headOf, bodyOf, endOf}
 use Rattle.jobs.specs.declared.Job.{Job}
 use Rattle.jobs.specs.declared.Reading.{Reading}
 use Rattle.jobs.specs.declared.Reading.the-variants.{Whole, Malformed}
 use Rattle.jobs.specs.Format.{optionsOf, decoded}
 
 -- the bytes begin with a field of this tag, whose body has n bytes
-unfoldable pub begins : ℕ → ℕ → List ℕ → Bool
-begins tag n s = leb (3 + n) (length s) && eqb (byteAt s 0) tag && eqb (pairOf (drop 1 s)) n
+abbrev pub isField : ℕ → ℕ → Heading → Bool
+isField tag n (Tagged k m) = eqb k tag && eqb m n
+isField tag n Cut = false
 
--- its body, and what stands behind it
+unfoldable pub stands : ℕ → ℕ → List ℕ → Bool
+stands tag n s = isField tag n (headOf s)
+
+-- its body, and what is behind it
 unfoldable pub found : ℕ → ℕ → List ℕ → Option (List ℕ)
-found tag n s = cond (begins tag n s) (some (take n (drop 3 s))) none
+found tag n s = cond (stands tag n s) (some (bodyOf s)) none
 
 unfoldable pub behind : ℕ → ℕ → List ℕ → List ℕ
-behind tag n s = cond (begins tag n s) (drop (3 + n) s) s
+behind tag n s = cond (stands tag n s) (drop (endOf s) s) s
 
 -- what the fields 2 to 6 say, each looked for at its place
 abbrev pub optionsAt : List ℕ → ℕ → ℕ → ℕ → ℕ → ℕ → Options

@@ -1,8 +1,9 @@
-// 01's jobs: tagged fields in bytes, read as the parameters of a search over one of the sample curves; and the search of
-// a job, by 01's refusals 9, 2, 3 and 4 over the whole job, in that order.
+// 01's jobs: tagged fields, read as the parameters of a search over one of the sample curves; and the search of a job,
+// by 01's refusals 9, 2, 3 and 4 over the whole job, in that order.
 
 use curves::Curve;
 use curves::Known;
+use fields::Heading;
 use hagerzhang::Started;
 use hagerzhang::Turn;
 use hagerzhang_decisions::parameters;
@@ -15,8 +16,8 @@ ghost use lib.ListN.{length, drop};
 ghost use Rattle.wire.specs.Wire.{pairOf};
 ghost use Rattle.jobs.specs.Format.{floatIn, said};
 ghost use Rattle.refusals.specs.Results.{value};
-ghost use Rattle.jobs.specs.Opening.{overCurve, beginsBy, openedTold, BeginSaid};
-ghost use Rattle.jobs.specs.Reader.{begins, found, behind, optionsAt, ReadSaid};
+ghost use Rattle.jobs.specs.Opening.{overCurve, begunBy, openedTold, BeginSaid};
+ghost use Rattle.jobs.specs.Reader.{stands, found, behind, optionsAt, ReadSaid};
 
 // ---- a job, read from bytes
 
@@ -35,52 +36,50 @@ pub enum Reading {
 // Where a field may stand: the place, its tag, and the length of its body.
 struct Place(usize, u8, usize);
 
+// Whether it stands there.
 fn stands(job: &[u8], p: Place) -> bool
-    requires { ⌜ (p .0 ≤ length (now job)) × (p .2 ≤ 16) ⌝ }
-    ensures { λ r. ⌜ r ≡ begins (p .1) (p .2) (drop (p .0) (now (job .entry))) ⌝ }
+    ensures { λ r. ⌜ r ≡ stands (p .1) (p .2) (drop (p .0) (now (job .entry))) ⌝ }
 {
-    let at = p.0;
-    if job.len() - at < 3 + p.2 {
-        return false;
+    match fields::head(wire::from(job, p.0)) {
+        Heading::Tagged(tag, n) => (tag == p.1) & (n == p.2),
+        Heading::Cut => false,
     }
-    let a = at + 1;
-    let b = at + 3;
-    (job[at] == p.1) & (wire::pair(&job[a..b]) == p.2)
 }
 
-// The place behind the field, or the same place where it is absent.
-fn next(job: &[u8], p: Place) -> usize
-    requires { ⌜ (p .0 ≤ length (now job)) × (p .2 ≤ 16) ⌝ }
+// The place behind the field; or the same place where it is absent.
+fn behind(job: &[u8], p: Place) -> usize
+    requires { ⌜ p .0 ≤ length (now job) ⌝ }
     ensures { λ r. ⌜ r ≤ length (now (job .entry)) ⌝ }
     ensures { λ r. ⌜ drop r (now (job .entry)) ≡ behind (p .1) (p .2) (drop (p .0) (now (job .entry))) ⌝ }
 {
     if stands(job, p) {
-        return p.0 + 3 + p.2;
+        return p.0 + fields::end(wire::from(job, p.0));
     }
     p.0
 }
 
-// The float that starts `skip` bytes into the field's body, or the other where the field is absent.
+// The float that starts `skip` bytes into the field's body, the part of the job behind tag and length; or the other
+// where the field is absent.
 fn number(job: &[u8], p: Place, skip: usize, other: f64) -> f64
-    requires { ⌜ (p .0 ≤ length (now job)) × (p .2 ≤ 16) × (skip ≤ p .2) ⌝ }
+    requires { ⌜ skip ≤ p .2 ⌝ }
     ensures { λ r. ⌜ r ≡ said (floatIn skip) (found (p .1) (p .2) (drop (p .0) (now (job .entry)))) other ⌝ }
 {
     if stands(job, p) {
-        let a = p.0 + 3 + skip;
-        let b = p.0 + 3 + p.2;
+        let body = p.0 + 3;
+        let a = body + skip;
+        let b = body + p.2;
         return wire::float(&job[a..b]);
     }
     other
 }
 
-// The number that the field's body is, or the other where the field is absent.
+// The number that the field's body is; or the other where the field is absent.
 fn count(job: &[u8], p: Place, other: u32) -> u32
-    requires { ⌜ (p .0 ≤ length (now job)) × (p .2 ≡ 2) ⌝ }
     ensures { λ r. ⌜ r ≡ said pairOf (found (p .1) (p .2) (drop (p .0) (now (job .entry)))) other ⌝ }
 {
     if stands(job, p) {
         let a = p.0 + 3;
-        let b = p.0 + 3 + p.2;
+        let b = a + p.2;
         return wire::pair(&job[a..b]) as u32;
     }
     other
@@ -95,8 +94,6 @@ fn options(
     budget: usize,
     limit: usize,
 ) -> Options
-    requires { ⌜ (bounds ≤ length (now job)) × (start ≤ length (now job)) × (epsilon ≤ length (now job))
-        × (budget ≤ length (now job)) × (limit ≤ length (now job)) ⌝ }
     ensures { λ r. ⌜ r ≡ optionsAt (now (job .entry)) bounds start epsilon budget limit ⌝ }
 {
     let d = parameters::defaults();
@@ -131,12 +128,12 @@ pub fn read(job: &[u8]) -> Reading
     if !stands(job, Place(0, 1, 1)) {
         return Reading::Malformed;
     }
-    let bounds = 4;
-    let start = next(job, Place(bounds, 2, 16));
-    let epsilon = next(job, Place(start, 3, 8));
-    let budget = next(job, Place(epsilon, 4, 8));
-    let limit = next(job, Place(budget, 5, 2));
-    if next(job, Place(limit, 6, 2)) != job.len() {
+    let bounds = behind(job, Place(0, 1, 1));
+    let start = behind(job, Place(bounds, 2, 16));
+    let epsilon = behind(job, Place(start, 3, 8));
+    let budget = behind(job, Place(epsilon, 4, 8));
+    let limit = behind(job, Place(budget, 5, 2));
+    if behind(job, Place(limit, 6, 2)) != job.len() {
         return Reading::Malformed;
     }
     Reading::Whole(Job {
@@ -157,7 +154,7 @@ pub enum Opened {
 }
 
 // A start at the curve's cost and slope at 0.
-fn search_over(c: Curve, o: Options) -> Opened
+fn over_curve(c: Curve, o: Options) -> Opened
     ensures { λ r. ⌜ openedTold r ≡ overCurve c o ⌝ }
 {
     match hagerzhang::start(o, c.value(0.0), c.slope(0.0)) {
@@ -168,15 +165,15 @@ fn search_over(c: Curve, o: Options) -> Opened
 
 // Any number that is not finite (2) comes before the curve's number and the ranges (3), and these before epsilon_k and
 // L (4).
-fn start(j: Job) -> Opened
-    ensures { λ r. ⌜ openedTold r ≡ beginsBy (value j) ⌝ }
+fn begun_by(j: Job) -> Opened
+    ensures { λ r. ⌜ openedTold r ≡ begunBy (value j) ⌝ }
 {
     let o = j.options;
     if !parameters::params_finite(o.params) {
         return Opened::NoSearch(Refusal::SuppliedNotFinite);
     }
     match curves::numbered(j.curve) {
-        Known::Found(c) => search_over(c, o),
+        Known::Found(c) => over_curve(c, o),
         Known::Unknown(k) => Opened::NoSearch(k),
     }
 }
@@ -186,7 +183,7 @@ pub fn begin(job: &[u8]) -> Opened
     ensures { λ r. ⌜ BeginSaid (now (job .entry)) r ⌝ }
 {
     match read(job) {
-        Reading::Whole(j) => start(j),
+        Reading::Whole(j) => begun_by(j),
         Reading::Malformed => Opened::Unreadable,
     }
 }

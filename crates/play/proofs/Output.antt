@@ -26,7 +26,7 @@ use Rattle.hagerzhang.proofs.Bridge.{starts-whole}
 use Rattle.lines.specs.Lines.{refusedLine}
 use Rattle.jobs.specs.declared.Job.{Job}
 use Rattle.jobs.specs.Reader.{jobOf}
-use Rattle.jobs.specs.Opening.{f0Of, s0Of, setupFor, jobRows, beginsBy, beginOf}
+use Rattle.jobs.specs.Opening.{f0Of, s0Of, setupFor, jobRows, begunBy, beginOf}
 use Rattle.jobs.proofs.Begins.{Begins, begun}
 use Rattle.play.specs.declared.Played.the-variants.{Pending, Done}
 use Rattle.play.specs.Telling.{Said, telling, textOf}
@@ -134,7 +134,7 @@ unfolding told-for
 refused-rows rows a text n h =
     sym (alike (told-for text) (λ r. r) (λ m. refl) a text refl rows) ∙ ap (told-for text) h
 
-refused-job : (a : Result Job) (n : ℕ) → beginsBy a ≡ refused n → jobText a ≡ refusedLine n
+refused-job : (a : Result Job) (n : ℕ) → begunBy a ≡ refused n → jobText a ≡ refusedLine n
 refused-job (value j) n h = ap orRefused (refused-rows (jobRows j) _ (searchText j) n h)
 refused-job (refused m) n h = let e : m ≡ n = cc in ap refusedLine e
 

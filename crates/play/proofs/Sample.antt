@@ -18,8 +18,9 @@ use Rattle.curves.specs.declared.Curve.{Curve}
 use Rattle.curves.specs.Curves.{table, valueOf, slopeOf}
 use Rattle.text.specs.Text.{bytes}
 use Rattle.lines.proofs.Samples.{samples}
+use Rattle.fields.specs.Fields.{Field}
 use Rattle.jobs.specs.declared.Job.{Job}
-use Rattle.jobs.specs.Format.{Field, sizeOf, WellFormed, nothing, field, bodyOf, optionsOf, decoded, meansOf}
+use Rattle.jobs.specs.Format.{sizeOf, WellFormed, nothing, field, bodyUnder, optionsOf, decoded, meansOf}
 use Rattle.jobs.specs.Reader.{jobOf}
 use Rattle.jobs.proofs.BothWays.{job-read}
 use Rattle.jobs.specs.Opening.{curveOf, setupFor, jobRows}
@@ -73,7 +74,7 @@ j = record {
 }
 
 says : meansOf (curve ∷ bounds ∷ []) ≡ value j
-unfolding bodyOf optionsOf decoded
+unfolding bodyUnder optionsOf decoded
 says = refl
 
 is-job : jobOf job ≡ value j

@@ -4,8 +4,7 @@
 ghost use mathlib.Core.List.{[], _∷_};
 ghost use mathlib.Core.Path.{_≡_};
 ghost use Prim.Native.Nat.{_<_};
-ghost use Rattle.text.specs.Text.{Writes, hexOf, decimalOf, decimalUpTo};
-ghost use Rattle.text.specs.Text.{digit as Text·digit};
+ghost use Rattle.text.specs.Text.{Writes, digit, hexOf, decimalOf, decimalUpTo};
 ghost use Rattle.text.specs.Figures.{nextText, floatsText, floatsLine, numberLine};
 
 // One byte; a full buffer stays as it is.
@@ -34,7 +33,7 @@ pub fn word(out: &mut [u8], at: usize, w: &[u8]) -> usize
 // The digit of a number below 16.
 fn digit(d: u64) -> u8
     requires { ⌜ d < 16 ⌝ }
-    ensures { λ r. ⌜ r ≡ Text·digit d ⌝ }
+    ensures { λ r. ⌜ r ≡ digit d ⌝ }
 {
     if d < 10 { 48 + d as u8 } else { 55 + d as u8 }
 }

@@ -1,5 +1,5 @@
--- 01, "Sample curves and jobs": "most significant byte first, floats as their 64 bits". So that any bytes have a reading, one past the end is 0; a
--- reader of 01's fields tests lengths first (refusal 9), and never sees that.
+-- 01, "Sample curves and jobs": "most significant byte first, floats as their 64 bits". So that any bytes have a
+-- reading, one past the end is 0; a reader of 01's fields tests lengths first (refusal 9), and never sees that.
 use Prim.Native.Nat.{ℕ, _+_, _*_}
 use mathlib.Core.List.{List}
 use lib.ListN.{getD}

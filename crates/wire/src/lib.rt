@@ -1,4 +1,5 @@
-// Numbers in bytes, most significant byte first, floats as their 64 bits. Any bytes have a reading: those past the end are 0.
+// Numbers in bytes, most significant byte first, floats as their 64 bits. Any bytes have a reading: those past the end
+// are 0.
 
 ghost use mathlib.Core.Path.{_≡_};
 ghost use Prim.Native.Nat.{_<_};
@@ -33,6 +34,7 @@ pub fn from(s: &[u8], at: usize) -> &[u8]
 // The number in the first two bytes.
 pub fn pair(s: &[u8]) -> usize
     ensures { λ r. ⌜ r ≡ pairOf (now (s .entry)) ⌝ }
+    ensures { λ r. ⌜ r < 65536 ⌝ }
 {
     (wide(s, 0) * 256 + wide(s, 1)) as usize
 }

@@ -7,13 +7,11 @@ use Rattle.case_files.proofs.dot_field.Tie as tie
 
 returns : tie.Need-returns
 unfolding dotField
-returns c =
-    simp (lt-leb _ _ (c .if1 .taken))
+returns c = simp (lt-leb _ _ (c .if1 .taken))
 
 returns-2 : tie.Need-returns-2
 unfolding dotField
-returns-2 c =
-    simp (le-leb _ _ (c .before .if1 .left), lt-leb _ _ (c .if2 .taken))
+returns-2 c = simp (le-leb _ _ (c .before .if1 .left), lt-leb _ _ (c .if2 .taken))
 
 returns-3 : tie.Need-returns-3
 unfolding dotField
@@ -26,4 +24,6 @@ returns-4 c =
     simp (le-leb _ _ (c .before .before .if1 .left), le-leb _ _ (c .before .if2 .left), ne-eqb _ _ (c .if3 .left))
 
 pub dot-field-spec : {M : Type 1} → statement M
-dot-field-spec = tie.close (tie.spec returns returns-2 (λ c. search needs) (λ c. search needs) (λ c. search needs) returns-3 returns-4)
+dot-field-spec =
+    tie.close (tie.spec returns returns-2 (λ c. search needs) (λ c. search needs) (λ c. search needs) returns-3
+    returns-4)

@@ -7,13 +7,11 @@ use Rattle.case_files.proofs.point_field.Tie as tie
 
 returns : tie.Need-returns
 unfolding pointField
-returns c =
-    simp (lt-leb _ _ (c .if1 .taken))
+returns c = simp (lt-leb _ _ (c .if1 .taken))
 
 returns-2 : tie.Need-returns-2
 unfolding pointField
-returns-2 c =
-    simp (le-leb _ _ (c .before .if1 .left), lt-leb _ _ (c .if2 .taken))
+returns-2 c = simp (le-leb _ _ (c .before .if1 .left), lt-leb _ _ (c .if2 .taken))
 
 returns-3 : tie.Need-returns-3
 unfolding pointField
@@ -23,12 +21,24 @@ returns-3 c =
 returns-4 : tie.Need-returns-4
 unfolding pointField
 returns-4 c =
-    simp (le-leb _ _ (c .before .before .before .if1 .left), le-leb _ _ (c .before .before .if2 .left), le-leb _ _ (c .before .if3 .left), eq-eqb _ _ (c .if4 .taken))
+    simp (
+      le-leb _ _ (c .before .before .before .if1 .left),
+      le-leb _ _ (c .before .before .if2 .left),
+      le-leb _ _ (c .before .if3 .left),
+      eq-eqb _ _ (c .if4 .taken),
+    )
 
 returns-5 : tie.Need-returns-5
 unfolding pointField
 returns-5 c =
-    simp (le-leb _ _ (c .before .before .before .if1 .left), le-leb _ _ (c .before .before .if2 .left), le-leb _ _ (c .before .if3 .left), ne-eqb _ _ (c .if4 .left))
+    simp (
+      le-leb _ _ (c .before .before .before .if1 .left),
+      le-leb _ _ (c .before .before .if2 .left),
+      le-leb _ _ (c .before .if3 .left),
+      ne-eqb _ _ (c .if4 .left),
+    )
 
 pub point-field-spec : {M : Type 1} → statement M
-point-field-spec = tie.close (tie.spec returns returns-2 returns-3 (λ c. search needs) (λ c. search needs) (λ c. search needs) returns-4 returns-5)
+point-field-spec =
+    tie.close (tie.spec returns returns-2 returns-3 (λ c. search needs) (λ c. search needs) (λ c. search needs)
+    returns-4 returns-5)

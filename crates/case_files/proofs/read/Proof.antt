@@ -1,30 +1,30 @@
 -- `case_files::read` meets its contract. Assumes nothing.
+use mathlib.Core.Path.{sym, ap, ap₂, _∙_}
+use mathlib.Core.List.{List}
+use Prim.Native.Nat.{ℕ}
+use denote.Ref.{now}
 use borrow.Author.Needs.{needs}
-use borrow.Author.Tests.{lt-ltb, le-ltb}
-use mathlib.Core.Path.{ap, _∙_}
-use Rattle.wire.specs.Wire.{pairOf}
-use Rattle.case_files.specs.CaseFiles.{readOf}
+use Rattle.fields.specs.declared.Heading.{Heading}
+use Rattle.fields.specs.Fields.{bodyOf}
+use Rattle.case_files.specs.CaseFiles.{readBy}
 use Rattle.case_files.proofs.read.Statement.{statement}
 use Rattle.case_files.proofs.read.Tie as tie
 
 returns : tie.Need-returns
-unfolding readOf
 returns c =
-    simp (lt-ltb _ _ (c .if1 .taken))
+    let h = c .before .before .before .before .before in
+    c .tagged-field .ensures
+    ∙ ap₂ (λ (k : Heading) (l : List ℕ). readBy k l (h .before .before .args .searching))
+    (sym (c .before .before .before .tag .given .1) ∙ h .head .ensures) (c .before .body .ensures)
 
 returns-2 : tie.Need-returns-2
-unfolding readOf
 returns-2 c =
-    let size = c .before .before .before .pair .ensures ∙ ap pairOf (c .before .before .before .before .from .ensures) in
-    rw (le-ltb _ _ (c .before .if1 .left), ← c .before .before .from2 .ensures, ← size, lt-ltb _ _ (c .if2 .taken))
-
-returns-3 : tie.Need-returns-3
-unfolding readOf
-returns-3 c =
-    let size = c .before .before .before .before .before .pair .ensures ∙ ap pairOf (c .before .before .before .before .before .before .from .ensures) in
-    rw (le-ltb _ _ (c .before .before .before .if1 .left), ← c .before .before .before .before .from2 .ensures, ← size, le-ltb _ _ (c .before .before .if2 .left), ← c .before .byte .ensures) (c .tagged-field .ensures)
+    let h = c .before .before in
+    let a = h .before .before .args in
+    ap (λ (k : Heading). readBy k (bodyOf (now (a .s))) (a .searching))
+    (sym (c .enum-told .given .1) ∙ h .head .ensures)
 
 pub read-spec : {M : Type 1} → statement M
 read-spec =
-    tie.close (tie.spec (λ c κs. search needs) (λ c κs. search needs) (λ c κs. search needs) returns returns-2 (λ c κs. search needs)
-    (λ c κs. search needs) returns-3)
+    tie.close (tie.spec (λ c κs. search needs) (λ c. search needs) (λ c κs. search needs) (λ c κs. search needs)
+    (λ c. search needs) returns returns-2)

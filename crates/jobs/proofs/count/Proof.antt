@@ -1,49 +1,46 @@
 -- `jobs::count` meets its contract: the body is a part of the job. Assumes nothing.
 use mathlib.Core.Path.{_≡_, _∙_, sym}
 use mathlib.Core.Bool.{true}
-use Prim.Native.Nat.{_+_, _-_, _≤_}
+use Prim.Native.Nat.{_+_, _≤_}
 use native.Mathlib.Omega.{arith}
 use lib.ListN.{length, drop}
 use denote.Ref.{now}
 use borrow.Author.Needs.{needs}
-use Rattle.jobs.specs.Reader.{begins}
-use Rattle.jobs.proofs.Parts.{within, count-there, count-absent, pair-fits}
+use Rattle.wire.specs.Wire.{pairOf}
+use Rattle.jobs.specs.Reader.{stands}
+use Rattle.jobs.proofs.Parts.{within, count-there, absent}
 use Rattle.jobs.proofs.count.Statement.{statement}
 use Rattle.jobs.proofs.count.Tie as tie
 
 there : (c : tie.Then1) → let a = c .before .before .before .args in
-    begins (a .p .1) (a .p .2) (drop (a .p .0) (now (a .job))) ≡ true
+    stands (a .p .1) (a .p .2) (drop (a .p .0) (now (a .job))) ≡ true
 there c = sym (c .before .stands .ensures) ∙ c .if1 .taken
 
 whole : (c : tie.Then1) → let a = c .before .before .before .args in a .p .0 + 3 + a .p .2 ≤ length (now (a .job))
-whole c =
-    let a = c .before .before .before .args in
-    within (now (a .job)) (a .p .0) (a .p .1) (a .p .2) (c .before .before .before .pre .0) (there c)
+whole c = within _ _ _ _ (there c)
+
+add-a : tie.Need-add-a
+add-a c = record { fits = omega (arith, whole (c .before)) }
+
+add-b : tie.Need-add-b
+add-b c = record { fits = omega (arith, whole (c .before .before)) }
 
 part-pair-end : tie.Need-part-pair-end
-part-pair-end c = omega (arith, whole (c .before .before .before))
-
-cast-result : tie.Need-cast-result
-cast-result c =
-    let a = c .before .before .before .before .before .before .before .before .args in
-    let known = c .before .before .before .before .before .before .before .shared-slice-known .given in
-    let h = pair-fits (now (a .job)) (a .p .0 + 3) (a .p .0 + 3 + a .p .2 - (a .p .0 + 3)) (omega arith)
-    (λ i. omega (arith, known i)) in
-    record { fits = omega (arith, c .pair .ensures) }
+part-pair-end c = omega (arith, whole (c .before .before))
 
 returns : tie.Need-returns
 returns c =
-    let a = c .before .before .before .before .before .before .before .before .args in
-    c .pair .ensures ∙ count-there (now (a .job)) (a .p .0) (a .p .1) (a .p .2) (a .other)
-    (there (c .before .before .before .before .before))
+    let a = c .before .before .before .before .before .before .before .args in
+    c .pair .ensures .0
+    ∙ count-there (now (a .job)) (a .p .0) (a .p .1) (a .p .2) (there (c .before .before .before .before)) (a .other)
 
 returns-2 : tie.Need-returns-2
 returns-2 c =
     let a = c .before .before .before .args in
-    count-absent (now (a .job)) (a .p .0) (a .p .1) (a .p .2) (a .other)
+    absent (now (a .job)) (a .p .0) (a .p .1) (a .p .2) pairOf (a .other)
     (sym (c .before .stands .ensures) ∙ c .if1 .left)
 
 pub count-spec : {M : Type 1} → statement M
 count-spec =
-    tie.close (tie.spec (λ c κs. search needs) (λ c. search needs) (λ c. search needs) (λ c. search needs)
-    (λ c. search needs) (λ c. search needs) part-pair-end (λ c κs. search needs) cast-result returns returns-2)
+    tie.close (tie.spec (λ c κs. search needs) add-a add-b (λ c. search needs) (λ c. search needs)
+    part-pair-end (λ c κs. search needs) (λ c. search needs) returns returns-2)

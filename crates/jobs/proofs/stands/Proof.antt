@@ -1,28 +1,27 @@
 -- `jobs::stands` meets its contract. Assumes nothing.
-use mathlib.Core.Path.{_∙_, ap}
-use mathlib.Core.Bool.{_&&_}
-use Prim.Native.Nat.{ℕ, _+_, _-_}
-use native.Mathlib.Omega.{arith}
-use lib.Dec.{eqb}
-use lib.ListN.{getD}
-use denote.Ref.{now}
+use mathlib.Core.Path.{sym, ap, _∙_}
 use borrow.Author.Needs.{needs}
-use Rattle.jobs.proofs.Parts.{cut-short, by-head}
+use Rattle.fields.specs.Fields.{headOf}
+use Rattle.jobs.specs.Reader.{isField, stands}
 use Rattle.jobs.proofs.stands.Statement.{statement}
 use Rattle.jobs.proofs.stands.Tie as tie
 
 returns : tie.Need-returns
+unfolding stands
 returns c =
-    let a = c .before .before .before .args in
-    cut-short (now (a .job)) (a .p .0) (a .p .1) (a .p .2) (omega arith)
+    let h = c .before .before .before .before .before in
+    let p = h .before .before .before .args .p in
+    ap (isField (p .1) (p .2))
+    (sym (c .before .before .before .tag .given .1) ∙ h .head .ensures ∙ ap headOf (h .before .from .ensures))
 
 returns-2 : tie.Need-returns-2
+unfolding stands
 returns-2 c =
-    let a = c .before .before .before .before .before .before .before .before .args in
-    ap (λ (m : ℕ). eqb (getD (now (a .job)) (a .p .0) 0) (a .p .1) && eqb m (a .p .2)) (c .before .pair .ensures)
-    ∙ by-head (now (a .job)) (a .p .0) (a .p .1) (a .p .2) (a .p .0 + 3 - (a .p .0 + 1)) (omega arith) (omega arith)
+    let h = c .before .before in
+    let p = h .before .before .before .args .p in
+    ap (isField (p .1) (p .2)) (sym (c .enum-told .given .1) ∙ h .head .ensures ∙ ap headOf (h .before .from .ensures))
 
 pub stands-spec : {M : Type 1} → statement M
 stands-spec =
-    tie.close (tie.spec (λ c. search needs) (λ c. search needs) returns (λ c. search needs) (λ c. search needs)
-    (λ c. search needs) (λ c. search needs) (λ c. search needs) (λ c. search needs) (λ c κs. search needs) returns-2)
+    tie.close (tie.spec (λ c κs. search needs) (λ c κs. search needs) (λ c. search needs) (λ c. search needs) returns
+    returns-2)

@@ -7,5 +7,8 @@ use denote.Ref.{now}
 use Rattle.wire.proofs.byte.Statement.{statement}
 use Rattle.wire.proofs.byte.Tie as tie
 
+returns-2 : tie.Need-returns-2
+returns-2 c = sym (List·getD-eq-default (now (c .before .args .s)) 0 {n = c .before .args .at} (omega arith))
+
 pub byte-spec : {M : Type 1} → statement M
-byte-spec = tie.close (tie.spec (λ c. search needs) (λ c. search needs) (λ c. sym (List·getD-eq-default (now (c .before .args .s)) 0 {n = c .before .args .at} (omega arith))))
+byte-spec = tie.close (tie.spec (λ c. search needs) (λ c. search needs) returns-2)

@@ -5,5 +5,8 @@ use lib.Ieee.{binary64, ofBits}
 use Rattle.wire.proofs.float.Statement.{statement}
 use Rattle.wire.proofs.float.Tie as tie
 
+returns : tie.Need-returns
+returns c = c .float-of .ensures ∙ ap (ofBits binary64) (c .before .word .ensures)
+
 pub float-spec : {M : Type 1} → statement M
-float-spec = tie.close (tie.spec (λ c κs. search needs) (λ c κs. search needs) (λ c. c .float-of .ensures ∙ ap (ofBits binary64) (c .before .word .ensures)))
+float-spec = tie.close (tie.spec (λ c κs. search needs) (λ c κs. search needs) returns)

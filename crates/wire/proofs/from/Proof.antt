@@ -1,4 +1,5 @@
--- `wire::from` meets its contract: a part up to the end is all that is left, and past the end nothing is. Assumes nothing.
+-- `wire::from` meets its contract: a part up to the end is all that is left, and past the end nothing is. Assumes
+-- nothing.
 use borrow.Author.Needs.{needs}
 use mathlib.Core.Path.{_≡_, _∙_, sym}
 use mathlib.Core.List.{List}
@@ -20,8 +21,13 @@ none-left s at h =
     ∙ drop-of-length-le s {i = length s} (le-refl (length s))
     ∙ sym (drop-of-length-le s {i = at} h)
 
+returns : tie.Need-returns
+returns c = rest-whole (now (c .before .before .args .s)) (c .before .before .args .at)
+
+returns-2 : tie.Need-returns-2
+returns-2 c = none-left (now (c .before .before .args .s)) (c .before .before .args .at) (omega arith)
+
 pub from-spec : {M : Type 1} → statement M
 from-spec =
-    tie.close (tie.spec (λ c. search needs) (λ c. search needs) (λ c. search needs)
-    (λ c. rest-whole (now (c .before .before .args .s)) (c .before .before .args .at)) (λ c. search needs) (λ c. search needs) (λ c. search needs)
-    (λ c. none-left (now (c .before .before .args .s)) (c .before .before .args .at) (omega arith)))
+    tie.close (tie.spec (λ c. search needs) (λ c. search needs) (λ c. search needs) returns (λ c. search needs)
+    (λ c. search needs) (λ c. search needs) returns-2)

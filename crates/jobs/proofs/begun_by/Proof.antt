@@ -1,4 +1,4 @@
--- `jobs::start` meets its contract. Assumes nothing.
+-- `jobs::begun_by` meets its contract. Assumes nothing.
 use mathlib.Core.Path.{_≡_, _∙_, sym, ap}
 use mathlib.Core.Bool.{true}
 use borrow.Author.Needs.{needs}
@@ -6,8 +6,8 @@ use borrow.Author.Tests.{not-true, not-false}
 use Rattle.hagerzhang_rules.specs.Parameters.{paramsFinite}
 use Rattle.curves.specs.Told.{curveTold}
 use Rattle.jobs.proofs.Refusals.{not-finite, found-curve, unknown-curve}
-use Rattle.jobs.proofs.start.Statement.{statement}
-use Rattle.jobs.proofs.start.Tie as tie
+use Rattle.jobs.proofs.begun_by.Statement.{statement}
+use Rattle.jobs.proofs.begun_by.Tie as tie
 
 returns : tie.Need-returns
 returns c =
@@ -22,7 +22,7 @@ returns-2 c =
     let j = c .before .before .before .before .before .before .before .before .args .j in
     let n = c .before .before .before .before in
     let known = ap curveTold (sym (c .before .before .c .given .1)) ∙ n .numbered .ensures in
-    c .search-over .ensures ∙ found-curve j (fine (n .before)) _ known
+    c .over-curve .ensures ∙ found-curve j (fine (n .before)) _ known
 
 returns-3 : tie.Need-returns-3
 returns-3 c =
@@ -30,7 +30,7 @@ returns-3 c =
     let n = c .before .before .before in
     unknown-curve j (fine (n .before)) _ (ap curveTold (sym (c .before .k .given .1)) ∙ n .numbered .ensures)
 
-pub start-spec : {M : Type 1} → statement M
-start-spec =
+pub begun-by-spec : {M : Type 1} → statement M
+begun-by-spec =
     tie.close (tie.spec (λ c κs. search needs) returns (λ c κs. search needs) (λ c. search needs) (λ c κs. search needs)
     (λ c. search needs) returns-2 returns-3)

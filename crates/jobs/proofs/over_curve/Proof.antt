@@ -1,4 +1,4 @@
--- `jobs::search_over` meets its contract. Assumes nothing.
+-- `jobs::over_curve` meets its contract. Assumes nothing.
 use mathlib.Core.Path.{_≡_, sym, ap, _∙_}
 use lib.Ieee.{Float}
 use borrow.Author.Needs.{needs}
@@ -11,8 +11,8 @@ use Rattle.hagerzhang.specs.declared.state.Started.{Started}
 use Rattle.hagerzhang.specs.Machine.{freshOf, startedTold, StartSaid}
 use Rattle.jobs.specs.Opening.{overCurve}
 use Rattle.jobs.proofs.Refusals.{on, on-rows}
-use Rattle.jobs.proofs.search_over.Statement.{statement}
-use Rattle.jobs.proofs.search_over.Tie as tie
+use Rattle.jobs.proofs.over_curve.Statement.{statement}
+use Rattle.jobs.proofs.over_curve.Tie as tie
 
 -- what the start said, with the curve beside it
 beside : (c : Curve) (o : Options) (f0 s0 : Float) (r q : Started) → f0 ≡ valueOf c 0ᶠ → s0 ≡ slopeOf c 0ᶠ
@@ -39,7 +39,7 @@ returns-2 c =
     beside (a .c) (a .o) _ _ _ _ (s .before .before .value .ensures) (s .before .slope .ensures) (s .start .ensures .0)
     (c .before .k .given .1)
 
-pub search-over-spec : {M : Type 1} → statement M
-search-over-spec =
+pub over-curve-spec : {M : Type 1} → statement M
+over-curve-spec =
     tie.close (tie.spec (λ c κs. search needs) (λ c κs. search needs) (λ c κs. search needs) (λ c. search needs)
     (λ c. search needs) returns returns-2)
