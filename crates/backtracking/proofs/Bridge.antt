@@ -21,6 +21,7 @@ use Rattle.runs.specs.declared.Outcome.the-variants.{Ask, Stop, Limit, Refused}
 use Rattle.refusals.specs.declared.Refusal.the-variants.{SuppliedNotFinite, StepNotFinite}
 use Rattle.runs.specs.declared.Verdict.the-variants.{Met}
 use Rattle.conditions.specs.Conditions.{answerFinite, holdsOf}
+use Rattle.backtracking.specs.declared.Options.{Options}
 use Rattle.backtracking.specs.declared.Setup.{Setup}
 use Rattle.backtracking.specs.declared.Stage.{Stage}
 use Rattle.backtracking.specs.declared.Stage.the-variants.{First, Later, Over}
@@ -28,9 +29,10 @@ use Rattle.backtracking.specs.declared.Backtracking.{Backtracking}
 use Rattle.backtracking.specs.declared.Turn.{Turn}
 use Rattle.backtracking.specs.declared.Started.{Started}
 use Rattle.backtracking.specs.declared.Started.the-variants.{Began, NoSearch}
-use Rattle.backtracking.specs.Backtracking.{startRows, trials, search, started}
-use Rattle.backtracking.specs.Machine.{madeOf, fresh, triedOf, answerBy, answerOf, startOf, StartSaid, AnswerSaid}
-use Rattle.backtracking.specs.Meaning.{meaning, meant, Starts, Follows}
+use Rattle.backtracking.specs.Backtracking.{startRows, setupOf, trials, backtracking}
+use Rattle.backtracking.specs.Machine.{madeOf, freshOf, startOf, StartSaid}
+use Rattle.backtracking.specs.Machine.{triedOf, answerBy, answerOf, AnswerSaid}
+use Rattle.backtracking.specs.Meaning.{meaning, meant, begun, Starts, Follows}
 
 -- ---- one answer
 
@@ -54,9 +56,9 @@ asked : (s : Setup) (k before now : ℕ) (t : Float)
 unfolding seen onceTold shown
 asked s k before now t = rw (question-at s k before now t .1)
 
-module _ (s : Setup) (fits : s .limit < 4294967296) (m : Evaluations) (now : Iterations) (t : Float) where
+module _ (s : Setup) (fits : s .options .limit < 4294967296) (m : Evaluations) (now : Iterations) (t : Float) where
   abbrev next-step : Float
-  next-step = t ⊗ s .rho
+  next-step = t ⊗ s .options .rho
 
   -- what follows a trial that did not meet the condition, while k trials may follow
   further : ℕ → Rest ℕ
@@ -68,7 +70,7 @@ module _ (s : Setup) (fits : s .limit < 4294967296) (m : Evaluations) (now : Ite
   -- and of the machine
   abbrev further-step : Turn
   further-step =
-      cond (leb (s .limit) (now .0)) (madeOf s m now Over (Limit t))
+      cond (leb (s .options .limit) (now .0)) (madeOf s m now Over (Limit t))
       (cond (finite next-step) (madeOf s m now (Later next-step) (Ask next-step))
       (madeOf s m now Over (Refused StepNotFinite)))
 
@@ -77,13 +79,13 @@ module _ (s : Setup) (fits : s .limit < 4294967296) (m : Evaluations) (now : Ite
   unfolding seen onceTold shown meaning
   ended = refl
 
-  goes-on : (k : ℕ) → s .limit - now .0 ≡ k → denote further-step ≡ seen (further k)
+  goes-on : (k : ℕ) → s .options .limit - now .0 ≡ k → denote further-step ≡ seen (further k)
   unfolding further seen onceTold shown meaning
-  goes-on zero e = rw (le-leb (s .limit) (now .0) (omega arith))
+  goes-on zero e = rw (le-leb (s .options .limit) (now .0) (omega arith))
   goes-on (suc k) e =
-      let c : oneMore (now .0) ≡ now .0 + 1 = counts-on (now .0) (s .limit) fits (omega arith) in
-      let d : s .limit - (now .0 + 1) ≡ k = omega arith in
-      rw (lt-leb (s .limit) (now .0) (omega arith))
+      let c : oneMore (now .0) ≡ now .0 + 1 = counts-on (now .0) (s .options .limit) fits (omega arith) in
+      let d : s .options .limit - (now .0 + 1) ≡ k = omega arith in
+      rw (lt-leb (s .options .limit) (now .0) (omega arith))
       (picks denote (finite next-step) _ _ _ _
       (rw (c, d) (sym (asked s k (now .0) (now .0 + 1) next-step)))
       ended)
@@ -99,37 +101,38 @@ module _ (s : Setup) (fits : s .limit < 4294967296) (m : Evaluations) (now : Ite
   refuses n before f g = refl
 
   -- one trial
-  tests : (n : Evaluations) (before : Iterations) (f g : Float) (k : ℕ) → s .limit - now .0 ≡ k
+  tests : (n : Evaluations) (before : Iterations) (f g : Float) (k : ℕ) → s .options .limit - now .0 ≡ k
       → denote
-      (cond (answerFinite (s .condition) f g)
-      (cond (holdsOf (s .condition) (s .f0) (s .s0) t f g) (madeOf s m now Over (Stop Met t)) further-step)
+      (cond (answerFinite (s .options .condition) f g)
+      (cond (holdsOf (s .options .condition) (s .f0) (s .s0) t f g) (madeOf s m now Over (Stop Met t)) further-step)
       (madeOf s n before Over (Refused SuppliedNotFinite)))
       ≡ seen (respond (trials s k (before .0) (now .0) t) f g)
   unfolding further trials respond
   tests n before f g zero e =
-      picks denote (answerFinite (s .condition) f g) _ _ _ _
-      (picks denote (holdsOf (s .condition) (s .f0) (s .s0) t f g) _ _ _ _ meets (goes-on zero e))
+      picks denote (answerFinite (s .options .condition) f g) _ _ _ _
+      (picks denote (holdsOf (s .options .condition) (s .f0) (s .s0) t f g) _ _ _ _ meets (goes-on zero e))
       (refuses n before f g)
   tests n before f g (suc k) e =
-      picks denote (answerFinite (s .condition) f g) _ _ _ _
-      (picks denote (holdsOf (s .condition) (s .f0) (s .s0) t f g) _ _ _ _ meets (goes-on (suc k) e))
+      picks denote (answerFinite (s .options .condition) f g) _ _ _ _
+      (picks denote (holdsOf (s .options .condition) (s .f0) (s .s0) t f g) _ _ _ _ meets (goes-on (suc k) e))
       (refuses n before f g)
 
-answers-by : (s : Backtracking) → s .setup .limit < 4294967296 → (f g : Float) (stage : Stage) → s .stage ≡ stage
+answers-by : (s : Backtracking) → s .setup .options .limit < 4294967296 → (f g : Float) (stage : Stage)
+    → s .stage ≡ stage
     → denote (answerBy s f g stage) ≡ seen (respond (meaning (s .setup) (s .iterations .0) stage) f g)
 unfolding answerBy triedOf meaning
 answers-by s h f g First e =
-    tests (s .setup) h _ (s .iterations) (s .setup .alpha) (s .evaluations) (s .iterations) f g _ refl
+    tests (s .setup) h _ (s .iterations) (s .setup .options .alpha) (s .evaluations) (s .iterations) f g _ refl
 answers-by s h f g (Later t) e =
     tests (s .setup) h _ (iterations (oneMore (s .iterations .0))) t (s .evaluations) (s .iterations) f g _ refl
 answers-by s h f g Over e = unfold seen respond onceTold shown in rw e
 
 -- every answer to every state
-pub answers : (s : Backtracking) → s .setup .limit < 4294967296 → (f g : Float)
+pub answers : (s : Backtracking) → s .setup .options .limit < 4294967296 → (f g : Float)
     → denote (answerOf s f g) ≡ seen (respond (meant s) f g)
 answers s h f g = answers-by s h f g (s .stage) refl
 
-pub follows : (s : Backtracking) → s .setup .limit < 4294967296 → (f g : Float) (r : Turn)
+pub follows : (s : Backtracking) → s .setup .options .limit < 4294967296 → (f g : Float) (r : Turn)
     → AnswerSaid s f g r → Follows s f g r
 unfolding seen
 follows s h f g r e =
@@ -137,15 +140,18 @@ follows s h f g r e =
     record { tells = ap (λ (p : Seen ℕ). p .1) z; leaves = ap (λ (p : Seen ℕ). p .0) z }
 
 -- what `answer` promises of its result
-pub promised : (s : Backtracking) → s .setup .limit < 4294967296 → (f g : Float) (r : Turn)
+pub promised : (s : Backtracking) → s .setup .options .limit < 4294967296 → (f g : Float) (r : Turn)
     → AnswerSaid s f g r → AnswerSaid s f g r × Follows s f g r
 promised s h f g r e = (e, follows s h f g r e)
 
 -- ---- `start`
 
-pub starts-whole : (s : Setup) → meant (fresh s .search) ≡ search s
+pub starts-whole : (s : Setup) → meant (freshOf s .search) ≡ backtracking s
 unfolding meaning
-starts-whole s = let e : s .limit - 0 ≡ s .limit = omega arith in rw e
+starts-whole s = let e : s .options .limit - 0 ≡ s .options .limit = omega arith in rw e
+
+pub first-asked : (s : Setup) → told (freshOf s .outcome) ≡ shown (backtracking s)
+first-asked s = sym (asked-shown s (s .options .limit) 0 0 (s .options .alpha))
 
 -- what a result of a start stands for, and what it says
 unfoldable pub stands : Result Turn → Result (Rest ℕ)
@@ -157,20 +163,24 @@ says (value t) = told (t .outcome)
 says (refused n) = ends (refusal n)
 
 -- both are the rules'
-pub start-stands : (s : Setup) → stands (startOf s) ≡ started s
-unfolding stands
-start-stands s = alike stands (λ v. v) (λ n. refl) (fresh s) (search s) (ap value (starts-whole s)) (startRows s)
+module _ (o : Options) (f0 s0 : Float) where
+  start-stands : stands (startOf o f0 s0) ≡ begun o f0 s0
+  unfolding stands
+  start-stands =
+      let s = setupOf o f0 s0 in
+      alike stands (λ v. v) (λ n. refl) (freshOf s) (backtracking s) (ap value (starts-whole s)) (startRows o f0 s0)
 
-pub start-says : (s : Setup) → says (startOf s) ≡ firstOf (started s)
-unfolding says
-start-says s =
-    alike says firstOf (λ n. refl) (fresh s) (search s) (sym (asked-shown s (s .limit) 0 0 (s .alpha))) (startRows s)
+  start-says : says (startOf o f0 s0) ≡ firstOf (begun o f0 s0)
+  unfolding says
+  start-says =
+      let s = setupOf o f0 s0 in
+      alike says firstOf (λ n. refl) (freshOf s) (backtracking s) (first-asked s) (startRows o f0 s0)
 
-pub starts : (s : Setup) (r : Started) → StartSaid s r → Starts s r
-unfolding stands says
-starts s (Began t) e = record { stands-for = ap stands e ∙ start-stands s; tells-first = ap says e ∙ start-says s }
-starts s (NoSearch k) e = record { stands-for = ap stands e ∙ start-stands s; tells-first = ap says e ∙ start-says s }
+  pub starts : (r : Started) → StartSaid o f0 s0 r → Starts o f0 s0 r
+  unfolding stands says
+  starts (Began t) e = record { stands-for = ap stands e ∙ start-stands; tells-first = ap says e ∙ start-says }
+  starts (NoSearch k) e = record { stands-for = ap stands e ∙ start-stands; tells-first = ap says e ∙ start-says }
 
--- what `start` promises of its result
-pub start-promised : (s : Setup) (r : Started) → StartSaid s r → StartSaid s r × Starts s r
-start-promised s r e = (e, starts s r e)
+  -- what `start` promises of its result
+  pub start-promised : (r : Started) → StartSaid o f0 s0 r → StartSaid o f0 s0 r × Starts o f0 s0 r
+  start-promised r e = (e, starts r e)

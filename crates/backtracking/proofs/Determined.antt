@@ -5,7 +5,7 @@ use lib.Ieee.{Float}
 use Rattle.refusals.specs.Results.{Result, value, refused}
 use Rattle.floats.proofs.Determined.{determined}
 use Rattle.refusals.proofs.Determined.{withNumber, number-back}
-use Rattle.backtracking.specs.declared.Setup.{Setup}
+use Rattle.backtracking.specs.declared.Options.{Options}
 use Rattle.backtracking.specs.declared.Backtracking.{Backtracking}
 use Rattle.backtracking.specs.declared.Turn.{Turn}
 use Rattle.backtracking.specs.declared.Started.{Started}
@@ -21,8 +21,8 @@ unfolding read
 back (Began t) = refl
 back (NoSearch k) = ap NoSearch (number-back k)
 
-pub start-determined : (s : Setup) (r q : Started) → StartSaid s r → StartSaid s q → r ≡ q
-start-determined s r q e e' = determined startedTold read back r q (e ∙ sym e')
+pub start-determined : (o : Options) (f0 s0 : Float) (r q : Started) → StartSaid o f0 s0 r → StartSaid o f0 s0 q → r ≡ q
+start-determined o f0 s0 r q e e' = determined startedTold read back r q (e ∙ sym e')
 
 pub answer-determined : (s : Backtracking) (f g : Float) (r q : Turn) → AnswerSaid s f g r → AnswerSaid s f g q → r ≡ q
 answer-determined s f g r q e e' = e ∙ sym e'

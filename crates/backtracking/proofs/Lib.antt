@@ -1,3 +1,2 @@
 pub mod Bridge
 pub mod Determined
-pub mod EmptyPrograms

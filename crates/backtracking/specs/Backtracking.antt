@@ -7,42 +7,44 @@ use lib.Dec.{leb}
 use lib.Ieee.{Float, binary64, ofBits}
 use lib.Ieee.Scale.{finite}
 use Rattle.floats.specs.Arithmetic.{_⊗_, _<ᶠ_, 0ᶠ, 1ᶠ}
-use Rattle.refusals.specs.Results.{Result, Row, refuse_else_}
+use Rattle.refusals.specs.Results.{Row}
 use Rattle.runs.specs.Outcomes.{met, stop, limit, refusal, stepNotFinite}
 use Rattle.runs.specs.Asking.{Rest, endWith, keeping, question}
 use Rattle.conditions.specs.declared.Condition.{Condition}
 use Rattle.conditions.specs.Conditions.{constantsFinite, inRange, answerFinite, holdsOf}
+use Rattle.backtracking.specs.declared.Options.{Options}
 use Rattle.backtracking.specs.declared.Setup.{Setup}
 
 -- ---- 01, "Parameters": "rho 0.9 in (0, 1); alpha 1, > 0"; "iteration limit N is 1 to 10,000 (default 100)"
 
-abbrev pub defaultsOf : Condition → Float → Float → Setup
-defaultsOf C f0 s0 = record {
+abbrev pub defaultsOf : Condition → Options
+defaultsOf C = record {
   condition = C;
   rho = ofBits binary64 0x3fec_cccc_cccc_cccd;
   alpha = 1ᶠ;
-  f0 = f0;
-  s0 = s0;
   limit = 100;
 }
 
-abbrev pub suppliedFinite : Setup → Bool
-suppliedFinite s =
-    constantsFinite (s .condition) && finite (s .rho) && finite (s .alpha) && finite (s .f0) && finite (s .s0)
+abbrev pub suppliedFinite : Options → Float → Float → Bool
+suppliedFinite o f0 s0 =
+    constantsFinite (o .condition) && finite (o .rho) && finite (o .alpha) && finite f0 && finite s0
 
 abbrev pub limitInRange : ℕ → Bool
 limitInRange n = leb 1 n && leb n 10000
 
-abbrev pub parametersInRange : Setup → Bool
-parametersInRange s = inRange (s .condition) && 0ᶠ <ᶠ s .rho && s .rho <ᶠ 1ᶠ && 0ᶠ <ᶠ s .alpha
+abbrev pub parametersInRange : Options → Bool
+parametersInRange o = inRange (o .condition) && 0ᶠ <ᶠ o .rho && o .rho <ᶠ 1ᶠ && 0ᶠ <ᶠ o .alpha
 
-abbrev pub inRanges : Setup → Bool
-inRanges s = parametersInRange s && limitInRange (s .limit)
+abbrev pub inRanges : Options → Bool
+inRanges o = parametersInRange o && limitInRange (o .limit)
 
 -- 01's table, of a start: "a supplied number is NaN or infinite"; "a parameter, B, N or curve number is outside its
 -- range"
-abbrev pub startRows : Setup → List Row
-startRows s = (2, not (suppliedFinite s)) ∷ (3, not (inRanges s)) ∷ []
+abbrev pub startRows : Options → Float → Float → List Row
+startRows o f0 s0 = (2, not (suppliedFinite o f0 s0)) ∷ (3, not (inRanges o)) ∷ []
+
+abbrev pub setupOf : Options → Float → Float → Setup
+setupOf o f0 s0 = record { options = o; f0 = f0; s0 = s0 }
 
 -- ---- "Backtracking asks alpha, tests, then alpha*rho, and so on; each later trial is one iteration."
 
@@ -52,8 +54,8 @@ module _ (s : Setup) where
   -- is tested first, then the limit".
   abbrev tested : ℕ → ℕ → Float → Rest ℕ → Rest ℕ
   tested before now t further =
-      question (answerFinite (s .condition)) (keeping before) before t λ f g.
-      cond (holdsOf (s .condition) (s .f0) (s .s0) t f g) (endWith now (stop met t)) further
+      question (answerFinite (s .options .condition)) (keeping before) before t λ f g.
+      cond (holdsOf (s .options .condition) (s .f0) (s .s0) t f g) (endWith now (stop met t)) further
 
   -- n trials may follow this one; "its limit has the last step tested". Refusal 5: "the next trial step comes out not
   -- finite; nothing is asked". With rho below 1 a finite step never comes to that; 01's table names it for any search.
@@ -61,13 +63,9 @@ module _ (s : Setup) where
   trials zero before now t = tested before now t (endWith now (limit t))
   trials (suc n) before now t =
       tested before now t
-      (cond (finite (t ⊗ s .rho))
-      (trials n now (now + 1) (t ⊗ s .rho))
-      (endWith now (refusal (stepNotFinite (t ⊗ s .rho)))))
+      (cond (finite (t ⊗ s .options .rho))
+      (trials n now (now + 1) (t ⊗ s .options .rho))
+      (endWith now (refusal (stepNotFinite (t ⊗ s .options .rho)))))
 
-abbrev pub search : Setup → Rest ℕ
-search s = trials s (s .limit) 0 0 (s .alpha)
-
--- a start is refused by the first row that holds, or is this search
-abbrev pub started : Setup → Result (Rest ℕ)
-started s = refuse (startRows s) else search s
+abbrev pub backtracking : Setup → Rest ℕ
+backtracking s = trials s (s .options .limit) 0 0 (s .options .alpha)

@@ -18,6 +18,7 @@ use Rattle.runs.specs.declared.Verdict.the-variants.{Met}
 use Rattle.refusals.specs.Refusals.{numberOf}
 use Rattle.runs.specs.Counters.{oneMore, evaluations, iterations}
 use Rattle.conditions.specs.Conditions.{answerFinite, holdsOf}
+use Rattle.backtracking.specs.declared.Options.{Options}
 use Rattle.backtracking.specs.declared.Setup.{Setup}
 use Rattle.backtracking.specs.declared.Stage.{Stage}
 use Rattle.backtracking.specs.declared.Stage.the-variants.{First, Later, Over}
@@ -25,7 +26,7 @@ use Rattle.backtracking.specs.declared.Backtracking.{Backtracking}
 use Rattle.backtracking.specs.declared.Turn.{Turn}
 use Rattle.backtracking.specs.declared.Started.{Started}
 use Rattle.backtracking.specs.declared.Started.the-variants.{Began, NoSearch}
-use Rattle.backtracking.specs.Backtracking.{startRows}
+use Rattle.backtracking.specs.Backtracking.{setupOf, startRows}
 
 abbrev pub madeOf : Setup → Evaluations → Iterations → Stage → Outcome → Turn
 madeOf s n i stage outcome = record {
@@ -36,11 +37,11 @@ madeOf s n i stage outcome = record {
 -- ---- a start
 
 -- a search that waits for the answer at the first step, and has counted nothing
-abbrev pub fresh : Setup → Turn
-fresh s = madeOf s (evaluations 0) (iterations 0) First (Ask (s .alpha))
+abbrev pub freshOf : Setup → Turn
+freshOf s = madeOf s (evaluations 0) (iterations 0) First (Ask (s .options .alpha))
 
-abbrev pub startOf : Setup → Result Turn
-startOf s = refuse (startRows s) else fresh s
+abbrev pub startOf : Options → Float → Float → Result Turn
+startOf o f0 s0 = refuse (startRows o f0 s0) else freshOf (setupOf o f0 s0)
 
 -- what each case of `Started` tells, a refusal by 01's number
 abbrev pub startedTold : Started → Result Turn
@@ -48,8 +49,8 @@ startedTold (Began t) = value t
 startedTold (NoSearch k) = refused (numberOf k)
 
 -- what `start`'s contract says of its result; proofs/Determined.antt shows that this leaves only one
-abbrev pub StartSaid : Setup → Started → Type 0
-StartSaid s r = startedTold r ≡ startOf s
+abbrev pub StartSaid : Options → Float → Float → Started → Type 0
+StartSaid o f0 s0 r = startedTold r ≡ startOf o f0 s0
 
 -- ---- an answer
 
@@ -57,15 +58,16 @@ StartSaid s r = startedTold r ≡ startOf s
 unfoldable pub triedOf : Setup → Evaluations → Iterations → Iterations → Float → Float → Float → Turn
 triedOf s n before now t f g =
     let m = evaluations (oneMore (n .0)) in
-    cond (answerFinite (s .condition) f g)
-    (cond (holdsOf (s .condition) (s .f0) (s .s0) t f g) (madeOf s m now Over (Stop Met t))
-    (cond (leb (s .limit) (now .0)) (madeOf s m now Over (Limit t))
-    (cond (finite (t ⊗ s .rho)) (madeOf s m now (Later (t ⊗ s .rho)) (Ask (t ⊗ s .rho)))
+    cond (answerFinite (s .options .condition) f g)
+    (cond (holdsOf (s .options .condition) (s .f0) (s .s0) t f g) (madeOf s m now Over (Stop Met t))
+    (cond (leb (s .options .limit) (now .0)) (madeOf s m now Over (Limit t))
+    (cond (finite (t ⊗ s .options .rho)) (madeOf s m now (Later (t ⊗ s .options .rho)) (Ask (t ⊗ s .options .rho)))
     (madeOf s m now Over (Refused StepNotFinite)))))
     (madeOf s n before Over (Refused SuppliedNotFinite))
 
 unfoldable pub answerBy : Backtracking → Float → Float → Stage → Turn
-answerBy s f g First = triedOf (s .setup) (s .evaluations) (s .iterations) (s .iterations) (s .setup .alpha) f g
+answerBy s f g First =
+    triedOf (s .setup) (s .evaluations) (s .iterations) (s .iterations) (s .setup .options .alpha) f g
 answerBy s f g (Later t) =
     triedOf (s .setup) (s .evaluations) (s .iterations) (iterations (oneMore (s .iterations .0))) t f g
 answerBy s f g Over = record { search = s; outcome = Refused AlreadyOver }

@@ -9,21 +9,25 @@ use runs::Outcome;
 use runs::Verdict;
 ghost use mathlib.Core.Path.{_≡_};
 ghost use Rattle.backtracking.specs.Backtracking.{suppliedFinite, inRanges, defaultsOf};
-ghost use Rattle.backtracking.specs.Machine.{madeOf, triedOf, StartSaid, AnswerSaid};
+ghost use Rattle.backtracking.specs.Machine.{madeOf, freshOf, triedOf, StartSaid, AnswerSaid};
 ghost use Rattle.backtracking.specs.Meaning.{Starts, Follows};
 
-// What does not change in a search.
-pub struct Setup {
+pub struct Options {
     pub condition: Condition,
     // the factor by which a step shrinks
     pub rho: f64,
     // the first step
     pub alpha: f64,
+    // how many trials may follow the first
+    pub limit: u32,
+}
+
+// What does not change in a search.
+pub struct Setup {
+    pub options: Options,
     // cost and slope at the start
     pub f0: f64,
     pub s0: f64,
-    // how many trials may follow the first
-    pub limit: u32,
 }
 
 // What the search waits for: the answer at the first step, at a later one, or nothing any more.
@@ -51,18 +55,67 @@ pub enum Started {
     NoSearch(Refusal),
 }
 
-// The setup with argmin's rho and first step, and a limit of 100.
-pub fn defaults(condition: Condition, f0: f64, s0: f64) -> Setup
-    ensures { λ r. ⌜ r ≡ defaultsOf condition f0 s0 ⌝ }
+// argmin's rho and first step, and a limit of 100.
+pub fn defaults(condition: Condition) -> Options
+    ensures { λ r. ⌜ r ≡ defaultsOf condition ⌝ }
 {
-    Setup {
+    Options {
         condition,
         rho: 0.9,
         alpha: 1.0,
-        f0,
-        s0,
         limit: 100,
     }
+}
+
+// ---- a start
+
+fn supplied_finite(o: Options, f0: f64, s0: f64) -> bool
+    ensures { λ r. ⌜ r ≡ suppliedFinite o f0 s0 ⌝ }
+{
+    let condition = o.condition;
+    let constants = condition.constants_finite();
+    let rho = numbers::is_finite(o.rho);
+    let alpha = numbers::is_finite(o.alpha);
+    let cost = numbers::is_finite(f0);
+    let slope = numbers::is_finite(s0);
+    constants & rho & alpha & cost & slope
+}
+
+fn in_ranges(o: Options) -> bool
+    ensures { λ r. ⌜ r ≡ inRanges o ⌝ }
+{
+    let condition = o.condition;
+    let constants = condition.in_range();
+    let steps = constants & (0.0 < o.rho) & (o.rho < 1.0) & (0.0 < o.alpha);
+    let limit = (1 <= o.limit) & (o.limit <= 10000);
+    steps & limit
+}
+
+// A search that asks the first step, for cost f0 and slope s0 at step 0; or why there is none.
+pub fn start(o: Options, f0: f64, s0: f64) -> Started
+    ensures exact { λ r. ⌜ StartSaid o f0 s0 r ⌝ }
+    ensures rules { λ r. ⌜ Starts o f0 s0 r ⌝ }
+{
+    if !supplied_finite(o, f0, s0) {
+        return Started::NoSearch(Refusal::SuppliedNotFinite);
+    }
+    if !in_ranges(o) {
+        return Started::NoSearch(Refusal::OutOfRange);
+    }
+    Started::Began(fresh(Setup { options: o, f0, s0 }))
+}
+
+// A search that waits for the first answer.
+fn fresh(s: Setup) -> Turn
+    ensures { λ r. ⌜ r ≡ freshOf s ⌝ }
+{
+    made(
+        s,
+        Evaluations(0),
+        Iterations(0),
+        Stage::First,
+        Outcome::Ask(s.options.alpha),
+    )
 }
 
 fn made(
@@ -85,47 +138,7 @@ fn made(
     }
 }
 
-fn supplied_finite(s: Setup) -> bool
-    ensures { λ r. ⌜ r ≡ suppliedFinite s ⌝ }
-{
-    let condition = s.condition;
-    let constants = condition.constants_finite();
-    let rho = numbers::is_finite(s.rho);
-    let alpha = numbers::is_finite(s.alpha);
-    let f0 = numbers::is_finite(s.f0);
-    let s0 = numbers::is_finite(s.s0);
-    constants & rho & alpha & f0 & s0
-}
-
-fn in_ranges(s: Setup) -> bool
-    ensures { λ r. ⌜ r ≡ inRanges s ⌝ }
-{
-    let condition = s.condition;
-    let constants = condition.in_range();
-    let steps = constants & (0.0 < s.rho) & (s.rho < 1.0) & (0.0 < s.alpha);
-    let limit = (1 <= s.limit) & (s.limit <= 10000);
-    steps & limit
-}
-
-// A search that asks the first step, or why there is none.
-pub fn start(s: Setup) -> Started
-    ensures exact { λ r. ⌜ StartSaid s r ⌝ }
-    ensures rules { λ r. ⌜ Starts s r ⌝ }
-{
-    if !supplied_finite(s) {
-        return Started::NoSearch(Refusal::SuppliedNotFinite);
-    }
-    if !in_ranges(s) {
-        return Started::NoSearch(Refusal::OutOfRange);
-    }
-    Started::Began(made(
-        s,
-        Evaluations(0),
-        Iterations(0),
-        Stage::First,
-        Outcome::Ask(s.alpha),
-    ))
-}
+// ---- an answer
 
 // The answer at the step t, before which `before` iterations were counted and with which there are `now`: refused (2),
 // the end by the condition or by the limit, or the next trial, at t * rho (5).
@@ -140,7 +153,8 @@ fn tried(
 ) -> Turn
     ensures { λ r. ⌜ r ≡ triedOf s n before now t f g ⌝ }
 {
-    let condition = s.condition;
+    let o = s.options;
+    let condition = o.condition;
     if !condition.answer_finite(f, g) {
         return made(
             s,
@@ -154,10 +168,10 @@ fn tried(
     if condition.holds(s.f0, s.s0, t, f, g) {
         return made(s, m, now, Stage::Over, Outcome::Stop(Verdict::Met, t));
     }
-    if s.limit <= now.0 {
+    if o.limit <= now.0 {
         return made(s, m, now, Stage::Over, Outcome::Limit(t));
     }
-    let shorter = t * s.rho;
+    let shorter = t * o.rho;
     if numbers::is_finite(shorter) {
         return made(s, m, now, Stage::Later(shorter), Outcome::Ask(shorter));
     }
@@ -182,7 +196,7 @@ pub fn answer(s: Backtracking, f: f64, g: f64) -> Turn
             s.evaluations,
             s.iterations,
             s.iterations,
-            s.setup.alpha,
+            s.setup.options.alpha,
             f,
             g,
         ),

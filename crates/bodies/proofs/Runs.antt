@@ -22,9 +22,11 @@ one-more all v i n r next l h e a =
     let left : n - i ≡ suc (n - (i + 1)) = omega arith in
     let inside : i < length v = omega arith in
     rw (e, add-one, take-suc-set v i (floatOf r) inside, ← add-one i)
-    (a ∙ ap (λ k. take i v ++ floatsOf k r) left ∙ sym (append-snoc (take i v) (floatOf r) (floatsOf (n - (i + 1)) (drop 8 r))))
+    (a ∙ ap (λ k. take i v ++ floatsOf k r) left
+    ∙ sym (append-snoc (take i v) (floatOf r) (floatsOf (n - (i + 1)) (drop 8 r))))
 
-pub none-left : (all v : List Float) (i n : ℕ) (r : List ℕ) → length v ≡ n → n ≤ i → all ≡ take i v ++ floatsOf (n - i) r → v ≡ all
+pub none-left : (all v : List Float) (i n : ℕ) (r : List ℕ) → length v ≡ n → n ≤ i
+    → all ≡ take i v ++ floatsOf (n - i) r → v ≡ all
 none-left all v i n r l h a =
     let none : n - i ≡ 0 = omega arith in
     sym (a ∙ ap (λ k. take i v ++ floatsOf k r) none ∙ append-nil (take i v) ∙ take-all i v (omega arith))

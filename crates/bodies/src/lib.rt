@@ -1,17 +1,22 @@
 // The fields of a case file: what the body of each says.
 
-use backtracking::Setup;
 use conditions::Condition;
-use hagerzhang_rules::Options;
 use hagerzhang_rules::Params;
 ghost use mathlib.Core.Path.{_≡_};
 ghost use Prim.Native.Nat.{_≤_};
 ghost use lib.ListN.{length, drop};
-ghost use Rattle.bodies.specs.Bodies.{floatAt, quadAt, paramsOf, hagerZhangOf, conditionOf, backtrackingOf, answerOf, floatsOf};
+ghost use Rattle.bodies.specs.Bodies.{floatAt, quadAt, paramsOf, hagerZhangOf};
+ghost use Rattle.bodies.specs.Bodies.{conditionOf, backtrackingOf, answerOf, floatsOf};
 
-// A Hager-Zhang start: its options, and cost and slope at step 0.
-pub struct SearchStart {
-    pub options: Options,
+// A start: its options, and cost and slope at step 0.
+pub struct HagerZhangStart {
+    pub options: hagerzhang_rules::Options,
+    pub f0: f64,
+    pub s0: f64,
+}
+
+pub struct BacktrackingStart {
+    pub options: backtracking::Options,
     pub f0: f64,
     pub s0: f64,
 }
@@ -51,7 +56,7 @@ fn params(body: &[u8]) -> Params
     }
 }
 
-pub fn hager_zhang(body: &[u8]) -> SearchStart
+pub fn hager_zhang(body: &[u8]) -> HagerZhangStart
     ensures { λ r. ⌜ r ≡ hagerZhangOf (now (body .entry)) ⌝ }
 {
     let p = params(body);
@@ -59,8 +64,8 @@ pub fn hager_zhang(body: &[u8]) -> SearchStart
     let s0 = float(body, 80);
     let budget = quad(body, 88);
     let limit = quad(body, 92);
-    SearchStart {
-        options: Options {
+    HagerZhangStart {
+        options: hagerzhang_rules::Options {
             params: p,
             budget,
             limit,
@@ -85,7 +90,7 @@ fn condition(kind: u8, c1: f64, c2: f64) -> Condition
     Condition::StrongWolfe { c1, c2 }
 }
 
-pub fn backtracking(body: &[u8]) -> Setup
+pub fn backtracking(body: &[u8]) -> BacktrackingStart
     ensures { λ r. ⌜ r ≡ backtrackingOf (now (body .entry)) ⌝ }
 {
     let kind = wire::byte(body, 0);
@@ -95,13 +100,15 @@ pub fn backtracking(body: &[u8]) -> Setup
     let f0 = float(body, 33);
     let s0 = float(body, 41);
     let limit = quad(body, 49);
-    Setup {
-        condition: held_to,
-        rho,
-        alpha,
+    BacktrackingStart {
+        options: backtracking::Options {
+            condition: held_to,
+            rho,
+            alpha,
+            limit,
+        },
         f0,
         s0,
-        limit,
     }
 }
 
@@ -125,7 +132,8 @@ fn within(body: &[u8], at: usize) -> usize
 // The place of the next float, or the end.
 fn next(body: &[u8], at: usize) -> usize
     requires { ⌜ at ≤ length (now body) ⌝ }
-    ensures { λ r. ⌜ (r ≤ length (now (body .entry))) × (drop r (now (body .entry)) ≡ drop 8 (drop at (now (body .entry)))) ⌝ }
+    ensures { λ r. ⌜ (r ≤ length (now (body .entry)))
+        × (drop r (now (body .entry)) ≡ drop 8 (drop at (now (body .entry)))) ⌝ }
 {
     let n = body.len();
     if n - at < 8 { n } else { at + 8 }

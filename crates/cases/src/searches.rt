@@ -78,7 +78,8 @@ pub(crate) fn hager_zhang(body: &[u8]) -> Told {
 }
 
 pub(crate) fn backtracks(body: &[u8]) -> Told {
-    match backtracking::start(bodies::backtracking(body)) {
+    let b = bodies::backtracking(body);
+    match backtracking::start(b.options, b.f0, b.s0) {
         backtracking::Started::Began(step) => from_backtracking(step),
         backtracking::Started::NoSearch(r) => refused(r),
     }

@@ -1,296 +1,204 @@
--- Demands 2 and 3 of every backtracking search that `start` gave: its outcomes and its count of iterations are those of
--- 01's rules; it is over after 1 + N answers; its evaluations are the finite answers accepted (`searches`). Assumes
--- nothing.
+-- Demands 1 to 3 of backtracking (`backtracking-demands`). Of every search that `start` gave (`searches`): its outcomes
+-- and its count of iterations are those of 01's rules; it is over after 1 + N answers; its evaluations are the finite
+-- answers accepted; and 5 never comes. Assumes nothing.
 use mathlib.Core.Path.{_≡_, refl, sym, ap, _∙_, subst}
-use mathlib.Core.Bool.{Bool, true, false, cond, not}
-use mathlib.Core.List.{List, [], _∷_}
-use Prim.Native.Nat.{ℕ, zero, suc, _+_, _-_, _≤_, _<_}
+use mathlib.Core.Bool.{Bool, true, false, cond}
+use mathlib.Core.List.{List, [], _∷_, _++_}
+use mathlib.Core.Option.{some}
+use Prim.Native.Nat.{ℕ, _+_, _-_, _≤_, _<_}
 use native.Mathlib.Omega.{arith}
 use lib.Dec.{leb}
-use Rattle.floats.specs.Arithmetic.{_⊗_}
-use lib.Ieee.{Float}
+use lib.Ieee.{Float, binary64, fits}
 use lib.Ieee.Scale.{finite}
-use borrow.Author.Tests.{leb-true, not-false}
+use borrow.Author.Tests.{leb-false}
+use Rattle.floats.specs.Arithmetic.{_⊗_}
 use Rattle.refusals.specs.Results.{value}
-use Rattle.runs.specs.Outcomes.{met, stop, limit, refusal, answerNotFinite, stepNotFinite}
-use Rattle.runs.specs.Asking.{Rest, end, Ended, endWith, Reply, respond, shown, reported, isOver, onceTold, outcomes, after, tallied}
-use Rattle.runs.proofs.Accepted.{accepted}
-use Rattle.runs.specs.Counters.{oneMore}
-use Rattle.runs.proofs.Ends.{EndsWithin, at-end, ends-if, ends-within, question-ends, ends-over, ends-accepted, non-finite-once}
-use Rattle.floats.proofs.Branches.{either, by-test, and-second}
-use Rattle.runs.proofs.Machines as machines
-use Rattle.refusals.proofs.Refusals.{Passed, all, and, passed}
+use Rattle.refusals.specs.Refusals.{inOrder, refusedBy}
+use Rattle.refusals.specs.declared.Refusal.the-variants.{SuppliedNotFinite, StepNotFinite}
+use Rattle.refusals.proofs.Refusals.{Passed, passed, never-refused, by-rows}
+use Rattle.runs.specs.Outcomes.{refusalIn}
+use Rattle.runs.specs.Asking.{Reply, shown, reported, isOver as over, after, toldNext, reached}
+use Rattle.runs.specs.Counters.{oneMore, evaluations}
 use Rattle.runs.specs.declared.Evaluations.{Evaluations}
 use Rattle.runs.specs.declared.Iterations.{Iterations}
+use Rattle.runs.specs.declared.Outcome.the-variants.{Ask, Stop, Limit, Refused}
+use Rattle.runs.specs.declared.Verdict.the-variants.{Met}
+use Rattle.runs.proofs.Ends.{EndsWithin, by-after}
+use Rattle.runs.proofs.Machines.{counts-on}
+use Rattle.runs.proofs.Tied.{Tied, after-one-more, stands-at, told-at, outcomes-are, ends-in-time}
+use Rattle.runs.proofs.Tied.{finite-bounded, finite-counted, not-finite-once}
+use Rattle.runs.proofs.Tied as machines
 use Rattle.conditions.specs.Conditions.{answerFinite, holdsOf}
+use Rattle.backtracking.specs.declared.Options.{Options}
 use Rattle.backtracking.specs.declared.Setup.{Setup}
 use Rattle.backtracking.specs.declared.Stage.{Stage}
 use Rattle.backtracking.specs.declared.Stage.the-variants.{First, Later, Over}
 use Rattle.backtracking.specs.declared.Backtracking.{Backtracking}
 use Rattle.backtracking.specs.declared.Turn.{Turn}
-use Rattle.backtracking.specs.Backtracking.{limitInRange, parametersInRange, inRanges, startRows, trials, search}
-use Rattle.backtracking.specs.Machine.{triedOf, answerBy, answerOf, fresh, startOf}
-use Rattle.backtracking.specs.Meaning.{meaning, meant}
-use Rattle.backtracking.proofs.Bridge.{follows, starts-whole, asked-shown}
-use Rattle.demands.specs.Backtracking.{triedOut, next, says, reachedBy, isAsking, Searches}
+use Rattle.backtracking.specs.Backtracking.{startRows, setupOf, backtracking}
+use Rattle.backtracking.specs.Machine.{madeOf, triedOf, answerBy, answerOf, freshOf, startOf}
+use Rattle.backtracking.specs.Meaning.{meaning, meant, isOver, Follows}
+use Rattle.backtracking.proofs.Bridge.{follows, starts-whole, first-asked, question-at}
+use Rattle.demands.specs.Backtracking.{machine, Searches, BacktrackingDemands}
+use Rattle.demands.proofs.Trials.{supplied, ranges, limit-fits, alpha-finite, trials-rest, trials-end}
+use Rattle.demands.proofs.Trials.{NotFive, other-number, not-five, five-untold}
+use Rattle.demands.proofs.Tried.{answered}
+use Rattle.demands.proofs.EmptyPrograms.{empty-shut-out, second-ask}
 
-limit-in-range : (s : Setup) → Passed (startRows s) → inRanges s ≡ true
-limit-in-range s (and two (and three all)) = not-false _ three
-
-limit-fits : (s : Setup) → Passed (startRows s) → s .limit ≤ 10000
-limit-fits s ok =
-    leb-true (s .limit) 10000
-    (and-second (leb 1 (s .limit)) (leb (s .limit) 10000)
-    (and-second (parametersInRange s) (limitInRange (s .limit)) (limit-in-range s ok)))
-
-module _ (s : Setup) (n : Evaluations) (before now : Iterations) (t f g : Float) where
-  tried-setup : triedOf s n before now t f g .search .setup ≡ s
-  unfolding triedOf
-  tried-setup =
-      either (λ (r : Turn). r .search .setup) (answerFinite (s .condition) f g) _ _ s
-      (either (λ (r : Turn). r .search .setup) (holdsOf (s .condition) (s .f0) (s .s0) t f g) _ _ s refl
-      (either (λ (r : Turn). r .search .setup) (leb (s .limit) (now .0)) _ _ s refl
-      (either (λ (r : Turn). r .search .setup) (finite (t ⊗ s .rho)) _ _ s refl refl)))
-      refl
-
-  tried-count : triedOf s n before now t f g .search .evaluations .0
-      ≡ cond (answerFinite (s .condition) f g) (oneMore (n .0)) (n .0)
-  unfolding triedOf
-  tried-count =
-      by-test (λ (r : Turn). r .search .evaluations .0) (answerFinite (s .condition) f g) _ _ (oneMore (n .0)) (n .0)
-      (either (λ (r : Turn). r .search .evaluations .0) (holdsOf (s .condition) (s .f0) (s .s0) t f g) _ _ _ refl
-      (either (λ (r : Turn). r .search .evaluations .0) (leb (s .limit) (now .0)) _ _ _ refl
-      (either (λ (r : Turn). r .search .evaluations .0) (finite (t ⊗ s .rho)) _ _ _ refl refl)))
-      refl
-
-setup-kept : (b : Backtracking) (f g : Float) (stage : Stage) → answerBy b f g stage .search .setup ≡ b .setup
-unfolding answerBy
-setup-kept b f g First = tried-setup (b .setup) (b .evaluations) (b .iterations) _ (b .setup .alpha) f g
-setup-kept b f g (Later t) = tried-setup (b .setup) (b .evaluations) (b .iterations) _ t f g
-setup-kept b f g Over = refl
-
-accepts : (s : Setup) (k before now : ℕ) (t f g : Float) (ys : List Reply)
-    → accepted (answerFinite (s .condition)) (trials s k before now t) ((f, g) ∷ ys)
-    ≡ cond (answerFinite (s .condition) f g) 1 0
-    + accepted (answerFinite (s .condition)) (respond (trials s k before now t) f g) ys
-unfolding accepted trials respond
-accepts s zero before now t f g ys = refl
-accepts s (suc k) before now t f g ys = refl
-
-adds-by : (b : Backtracking) (f g : Float) (ys : List Reply) (stage : Stage) → b .evaluations .0 < 4294967295
-    → answerBy b f g stage .search .evaluations .0
-    + accepted (answerFinite (b .setup .condition)) (respond (meaning (b .setup) (b .iterations .0) stage) f g) ys
-    ≡ b .evaluations .0
-    + accepted (answerFinite (b .setup .condition)) (meaning (b .setup) (b .iterations .0) stage) ((f, g) ∷ ys)
-unfolding answerBy meaning
-adds-by b f g ys First h =
-    rw (accepts (b .setup) (b .setup .limit - b .iterations .0) (b .iterations .0) (b .iterations .0) (b .setup .alpha)
-    f g ys)
-    (machines.adds-one (answerFinite (b .setup .condition) f g) (b .evaluations .0) _ _ h
-    (tried-count (b .setup) (b .evaluations) (b .iterations) _ (b .setup .alpha) f g))
-adds-by b f g ys (Later t) h =
-    rw (accepts (b .setup) (b .setup .limit - oneMore (b .iterations .0)) (b .iterations .0)
-    (oneMore (b .iterations .0)) t f g ys)
-    (machines.adds-one (answerFinite (b .setup .condition) f g) (b .evaluations .0) _ _ h
-    (tried-count (b .setup) (b .evaluations) (b .iterations) _ t f g))
-adds-by b f g ys Over h = unfold respond in rw (machines.none-more _ _ ys, machines.none-more _ _ ((f, g) ∷ ys))
-
-asked-report : (s : Setup) (k before now : ℕ) (t : Float) → reported (trials s k before now t) ≡ before
-unfolding trials reported
-asked-report s zero before now t = refl
-asked-report s (suc k) before now t = refl
-
-asked-open : (s : Setup) (k before now : ℕ) (t : Float) → isOver (trials s k before now t) ≡ false
-unfolding trials isOver
-asked-open s zero before now t = refl
-asked-open s (suc k) before now t = refl
-
--- ---- the rules' search: it reports what the state counts, is not over while a trial is asked, and ends within 1 + N
--- answers
+-- ---- any state: the rules report what it counts, and are over where it is
 reports : (s : Setup) (i : ℕ) (stage : Stage) → reported (meaning s i stage) ≡ i
 unfolding meaning reported
-reports s i First = asked-report s (s .limit - i) i i (s .alpha)
-reports s i (Later t) = asked-report s (s .limit - oneMore i) i (oneMore i) t
+reports s i First = ap reported (question-at s (s .options .limit - i) i i (s .options .alpha) .1)
+reports s i (Later t) = ap reported (question-at s (s .options .limit - oneMore i) i (oneMore i) t .1)
 reports s i Over = refl
 
-over-is : (s : Setup) (i : ℕ) (stage : Stage) → isOver (meaning s i stage) ≡ triedOut stage
-unfolding meaning isOver
-over-is s i First = asked-open s (s .limit - i) i i (s .alpha)
-over-is s i (Later t) = asked-open s (s .limit - oneMore i) i (oneMore i) t
+over-is : (s : Setup) (i : ℕ) (stage : Stage) → isOver stage ≡ over (meaning s i stage)
+unfolding meaning over
+over-is s i First = sym (ap over (question-at s (s .options .limit - i) i i (s .options .alpha) .1))
+over-is s i (Later t) = sym (ap over (question-at s (s .options .limit - oneMore i) i (oneMore i) t .1))
 over-is s i Over = refl
 
-trials-end : (s : Setup) (k before now : ℕ) (t : Float)
-    → EndsWithin (answerFinite (s .condition)) (suc k) (trials s k before now t)
-unfolding trials
-trials-end s zero before now t =
-    question-ends before t _ (λ f g. ends-if (holdsOf (s .condition) (s .f0) (s .s0) t f g) at-end at-end)
-trials-end s (suc k) before now t =
-    question-ends before t _ (λ f g.
-    ends-if (holdsOf (s .condition) (s .f0) (s .s0) t f g) at-end
-    (ends-if (finite (t ⊗ s .rho)) (trials-end s k now (now + 1) (t ⊗ s .rho)) at-end))
+-- ---- what every state of such a search counts: "each later trial is one iteration", so one fewer than the answers
+-- accepted, and none before the first
+abbrev Counted : ℕ → Stage → ℕ → ℕ → Type 0
+Counted N First e i = (e ≡ 0) × (i ≡ 0)
+Counted N (Later t) e i = (e ≡ i + 1) × (i < N)
+Counted N Over e i = i ≡ e - 1
 
--- ---- "each later trial is one iteration": the iterations are one fewer than the answers accepted
+one-fewer : (N e i : ℕ) (stage : Stage) → Counted N stage e i → i ≡ e - 1
+one-fewer N e i First c = let n = c .0 in let z = c .1 in omega arith
+one-fewer N e i (Later t) c = let n = c .0 in omega arith
+one-fewer N e i Over c = c
 
--- with a answers accepted from here on, where `before` are counted until the first of them, and `now` with it
-counted-by : ℕ → ℕ → ℕ → ℕ
-counted-by before now zero = before
-counted-by before now (suc a) = now + a
+record Fit (s : Setup) (c : Backtracking) : Type 0 where
+  same : c .setup ≡ s
+  counts : Counted (s .options .limit) (c .stage) (c .evaluations .0) (c .iterations .0)
 
-counts-on : (before now a : ℕ) → counted-by now (now + 1) a ≡ counted-by before now (1 + a)
-unfolding counted-by
-counts-on before now zero = omega arith
-counts-on before now (suc a) = let e : 1 + suc a ≡ suc (suc a) = omega arith in rw e (omega arith)
-
-ended-reports : (o : Ended ℕ) (ys : List Reply) → reported (after (end o) ys) ≡ o .keeps
-unfolding reported after respond
-ended-reports o [] = refl
-ended-reports o (y ∷ ys) = ended-reports _ ys
-
-module _ (s : Setup) where
-  abbrev C : Float → Float → Bool
-  C = answerFinite (s .condition)
-
-  ended-counts : (before now : ℕ) (o : Ended ℕ) (ys : List Reply) (a : ℕ) → o .keeps ≡ counted-by before now a
-      → reported (after (end o) ys) ≡ counted-by before now (a + accepted C (end o) ys)
-  ended-counts before now o ys a e =
-      let z : a + 0 ≡ a = omega arith in
-      ended-reports o ys ∙ rw (machines.none-more o C ys, z) e
-
-  trials-counted : (k before now : ℕ) (t : Float) (ys : List Reply)
-      → reported (after (trials s k before now t) ys) ≡ counted-by before now (accepted C (trials s k before now t) ys)
-  unfolding trials reported after respond accepted counted-by
-  trials-counted zero before now t [] = refl
-  trials-counted (suc k) before now t [] = refl
-  trials-counted zero before now t (y ∷ ys) =
-      by (C (y .0) (y .1)) (holdsOf (s .condition) (s .f0) (s .s0) t (y .0) (y .1))
+module _ (s : Setup) (n : Evaluations) (before now : Iterations) (t f g : Float)
+    (fewer : before .0 ≡ n .0 - 1) (more : oneMore (n .0) ≡ now .0 + 1) where
+  tried-fits : Fit s (triedOf s n before now t f g .search)
+  unfolding triedOf
+  tried-fits =
+      by (answerFinite (s .options .condition) f g) (holdsOf (s .options .condition) (s .f0) (s .s0) t f g)
+      (leb (s .options .limit) (now .0)) (finite (t ⊗ s .options .rho)) refl
     where
-      by : (a h : Bool)
-          → reported (after
-          (cond a (cond h (endWith now (stop met t)) (endWith now (limit t)))
-          (endWith before (refusal (answerNotFinite (y .0) (y .1))))) ys)
-          ≡ counted-by before now
-          (cond a 1 0
-          + accepted C
-          (cond a (cond h (endWith now (stop met t)) (endWith now (limit t)))
-          (endWith before (refusal (answerNotFinite (y .0) (y .1))))) ys)
-      by true true = ended-counts before now _ ys 1 (omega arith)
-      by true false = ended-counts before now _ ys 1 (omega arith)
-      by false h = ended-counts before now _ ys 0 refl
-  trials-counted (suc k) before now t (y ∷ ys) =
-      by (C (y .0) (y .1)) (holdsOf (s .condition) (s .f0) (s .s0) t (y .0) (y .1)) (finite (t ⊗ s .rho))
-      (trials-counted k now (now + 1) (t ⊗ s .rho) ys)
-    where
-      on : Bool → Rest ℕ
-      on x = cond x (trials s k now (now + 1) (t ⊗ s .rho)) (endWith now (refusal (stepNotFinite (t ⊗ s .rho))))
+      by : (a h l x : Bool) → leb (s .options .limit) (now .0) ≡ l
+          → Fit s
+          ((let m = evaluations (oneMore (n .0)) in
+          cond a
+          (cond h (madeOf s m now Over (Stop Met t))
+          (cond l (madeOf s m now Over (Limit t))
+          (cond x (madeOf s m now (Later (t ⊗ s .options .rho)) (Ask (t ⊗ s .options .rho)))
+          (madeOf s m now Over (Refused StepNotFinite)))))
+          (madeOf s n before Over (Refused SuppliedNotFinite))) .search)
+      by false h l x e = record { same = refl; counts = fewer }
+      by true true l x e = record { same = refl; counts = omega arith }
+      by true false true x e = record { same = refl; counts = omega arith }
+      by true false false true e = record { same = refl; counts = (more, leb-false _ _ e) }
+      by true false false false e = record { same = refl; counts = omega arith }
 
-      by : (a h x : Bool)
-          → reported (after (trials s k now (now + 1) (t ⊗ s .rho)) ys)
-          ≡ counted-by now (now + 1) (accepted C (trials s k now (now + 1) (t ⊗ s .rho)) ys)
-          → reported (after
-          (cond a (cond h (endWith now (stop met t)) (on x)) (endWith before (refusal (answerNotFinite (y .0) (y .1))))) ys)
-          ≡ counted-by before now
-          (cond a 1 0
-          + accepted C
-          (cond a (cond h (endWith now (stop met t)) (on x)) (endWith before (refusal (answerNotFinite (y .0) (y .1))))) ys)
-      by true true x ih = ended-counts before now _ ys 1 (omega arith)
-      by true false true ih = ih ∙ counts-on before now (accepted C (trials s k now (now + 1) (t ⊗ s .rho)) ys)
-      by true false false ih = ended-counts before now _ ys 1 (omega arith)
-      by false h x ih = ended-counts before now _ ys 0 refl
+fits-next : (c : Backtracking) (f g : Float) (stage : Stage) → c .stage ≡ stage → c .setup .options .limit ≤ 10000
+    → Counted (c .setup .options .limit) stage (c .evaluations .0) (c .iterations .0)
+    → Fit (c .setup) (answerBy c f g stage .search)
+unfolding answerBy
+fits-next c f g First w small counted =
+    let n = counted .0 in
+    let i = counted .1 in
+    let one = counts-on (c .evaluations .0) 1 (omega arith) (omega arith) in
+    tried-fits (c .setup) (c .evaluations) (c .iterations) (c .iterations) _ f g (omega arith) (omega arith)
+fits-next c f g (Later t) w small counted =
+    let n = counted .0 in
+    let i = counted .1 in
+    let one = counts-on (c .evaluations .0) 10001 (omega arith) (omega arith) in
+    let now = counts-on (c .iterations .0) 10001 (omega arith) (omega arith) in
+    tried-fits (c .setup) (c .evaluations) (c .iterations) _ t f g (omega arith) (omega arith)
+fits-next c f g Over w small counted = record { same = refl; counts = rw w counted }
 
-  one-fewer : (a : ℕ) → counted-by 0 0 a ≡ a - 1
-  unfolding counted-by
-  one-fewer zero = refl
-  one-fewer (suc a) = omega arith
+-- ---- a start that no row refuses: the search that it gives, and every list of answers
+module _ (o : Options) (f0 s0 : Float) (ok : Passed (startRows o f0 s0)) where
+  abbrev s : Setup
+  s = setupOf o f0 s0
 
--- ---- a setup that no row refuses: the search that `start` gives, and every list of answers
-module _ (s : Setup) (ok : Passed (startRows s)) where
-  abbrev b : Backtracking
-  b = fresh s .search
+  small : o .limit ≤ 10000
+  small = limit-fits o (ranges o f0 s0 ok)
 
-  abbrev Fit : Backtracking → Type 0
-  Fit c = c .setup ≡ s
+  step : (c : Backtracking) → Fit s c → (f g : Float) → Follows c f g (answerOf c f g)
+  step c v f g = let l = small in follows c (rw (v .same) (omega arith)) f g _ refl
 
-  fit-limit : (c : Backtracking) → Fit c → c .setup .limit < 4294967296
-  fit-limit c e = let l : s .limit ≤ 10000 = limit-fits s ok in rw e (omega arith)
+  fit-next : (c : Backtracking) → Fit s c → (f g : Float) → Fit s (answerOf c f g .search)
+  fit-next c v f g =
+      subst (λ (u : Setup). Fit u (answerOf c f g .search)) (v .same)
+      (fits-next c f g (c .stage) refl (rw (v .same) small) (rw (v .same) (v .counts)))
 
-  fit-next : (c : Backtracking) → Fit c → (f g : Float) → Fit (next c f g)
-  fit-next c e f g = setup-kept c f g (c .stage) ∙ e
-
-  leaves : (c : Backtracking) → Fit c → (f g : Float) → meant (next c f g) ≡ onceTold (respond (meant c) f g)
-  leaves c e f g = follows c (fit-limit c e) f g (answerOf c f g) refl .leaves
-
-  tells : (c : Backtracking) → Fit c → (f g : Float) → says c f g ≡ shown (respond (meant c) f g)
-  tells c e f g = follows c (fit-limit c e) f g (answerOf c f g) refl .tells
-
-  abbrev test : Float → Float → Bool
-  test = answerFinite (s .condition)
-
-  adds : (c : Backtracking) → Fit c → (f g : Float) (zs : List Reply) → c .evaluations .0 < 4294967295
-      → next c f g .evaluations .0 + accepted test (respond (meant c) f g) zs
-      ≡ c .evaluations .0 + accepted test (meant c) ((f, g) ∷ zs)
-  adds c e f g zs h =
-      subst (λ (u : Setup). next c f g .evaluations .0
-      + accepted (answerFinite (u .condition)) (respond (meant c) f g) zs
-      ≡ c .evaluations .0
-      + accepted (answerFinite (u .condition)) (meant c) ((f, g) ∷ zs)) e (adds-by c f g zs (c .stage) h)
-
-  within : EndsWithin test (1 + s .limit) (search s)
-  within = ends-within (trials-end s (s .limit) 0 0 (s .alpha)) (1 + s .limit) (omega arith)
-
-  asking-is : (c : Backtracking) → isAsking c ≡ not (isOver (meant c))
-  asking-is c = ap not (sym (over-is (c .setup) (c .iterations .0) (c .stage)))
-
-  tallied-is : (passes : Float → Float → Bool) (ys : List Reply)
-      → tallied next isAsking passes b ys ≡ accepted passes (search s) ys
-  tallied-is passes ys =
-      machines.tests-counted meant next says Fit fit-next leaves tells isAsking asking-is passes b refl ys
-      ∙ ap (λ (r : Rest ℕ). accepted passes r ys) (starts-whole s)
-
-  reaches : {A : Type 0} (h : Rest ℕ → A) → ((r : Rest ℕ) → h (onceTold r) ≡ h r) → (ys : List Reply)
-      → h (meant (reachedBy b ys)) ≡ h (after (search s) ys)
-  reaches h e ys =
-      machines.reaches meant next says Fit fit-next leaves tells h e b refl ys
-      ∙ ap (λ (r : Rest ℕ). h (after r ys)) (starts-whole s)
-
-  iterations-are : (ys : List Reply) → reachedBy b ys .iterations .0 ≡ reported (after (search s) ys)
-  iterations-are ys =
-      let c = reachedBy b ys in
-      sym (reports (c .setup) (c .iterations .0) (c .stage)) ∙ reaches reported machines.report-rests ys
-
-  few-finite : (ys : List Reply) → tallied next isAsking test b ys ≤ 1 + s .limit
-  few-finite ys = rw (tallied-is test ys) (ends-accepted test within ys)
-
-  evaluations-are : (ys : List Reply) → reachedBy b ys .evaluations .0 ≡ tallied next isAsking test b ys
-  evaluations-are ys =
-      let same : accepted test (meant b) ys ≡ accepted test (search s) ys =
-      ap (λ (r : Rest ℕ). accepted test r ys) (starts-whole s) in
-      let tally = tallied-is test ys in
-      let few = few-finite ys in
-      let l : s .limit ≤ 10000 = limit-fits s ok in
-      let c = machines.counts meant next says Fit fit-next leaves tells test (λ (c : Backtracking). c .evaluations .0)
-      adds b refl ys (omega arith) in
-      omega arith
-
-  of-fresh : Searches s (fresh s)
-  of-fresh = record {
-    first-ask = sym (asked-shown s (s .limit) 0 0 (s .alpha));
-    outcomes-are-rules = λ ys.
-        machines.plays meant next says Fit fit-next leaves tells b refl ys
-        ∙ ap (λ (r : Rest ℕ). outcomes r ys) (starts-whole s);
-    iterations-are-rules = iterations-are;
-    iterations-counted = λ ys.
-        rw (tallied-is test ys)
-        (iterations-are ys ∙ trials-counted s (s .limit) 0 0 (s .alpha) ys ∙ one-fewer s (accepted test (search s) ys));
-    search-ends = λ ys h.
-        let c = reachedBy b ys in
-        sym (over-is (c .setup) (c .iterations .0) (c .stage)) ∙ reaches isOver machines.over-rests ys
-        ∙ ends-over within ys h;
-    evaluations-counted = evaluations-are;
-    evaluations-bounded = few-finite;
-    non-finite-once = λ ys. rw (tallied-is (λ f g. not (test f g)) ys) (non-finite-once within ys);
+  abbrev tied : Tied machine ℕ
+  tied = record {
+    meant = meant;
+    Fit = Fit s;
+    fit-next = fit-next;
+    leaves = λ c v f g. step c v f g .leaves;
+    tells = λ c v f g. step c v f g .tells;
+    over-is = λ c. over-is (c .setup) (c .iterations .0) (c .stage);
+    finite = answerFinite (o .condition);
+    counted = λ c. c .evaluations .0;
+    counts = λ c v f g.
+        subst (λ (u : Setup). answerOf c f g .search .evaluations .0
+        ≡ cond (isOver (c .stage)) (c .evaluations .0)
+        (cond (answerFinite (u .options .condition) f g) (oneMore (c .evaluations .0)) (c .evaluations .0))) (v .same)
+        (answered c f g (answerOf c f g) refl .counts);
+    first = freshOf s .search;
+    first-fits = record { same = refl; counts = (refl, refl) };
+    none-counted = refl;
+    rules = backtracking s;
+    whole = starts-whole s ∙ sym (trials-rest s (o .limit) 0 0 (o .alpha));
+    most = 1 + o .limit;
+    within = subst (λ (n : ℕ). EndsWithin (answerFinite (o .condition)) n (backtracking s)) (omega arith)
+        (trials-end s (o .limit) 0 0 (o .alpha));
+    countable = let l = small in omega arith;
   }
 
-pub searches : (s : Setup) (t : Turn) → startOf s ≡ value t → Searches s t
-searches s t began =
-    let given = passed (startRows s) (fresh s) t began in
-    subst (Searches s) (given .1) (of-fresh s (given .0))
+  abbrev reachedBy : List Reply → Backtracking
+  reachedBy ys = reached machine (freshOf s .search) ys
+
+  never-five : fits binary64 (o .alpha) ≡ true → (ys : List Reply) (y : Reply)
+      → refusalIn (toldNext machine (freshOf s .search) ys y) ≡ some 5 → ⊥
+  unfolding NotFive
+  never-five F ys y e =
+      five-untold (after (backtracking s) (ys ++ (y ∷ [])))
+      (by-after (other-number 8 (λ q. omega arith)) (backtracking s)
+      (not-five s (ranges o f0 s0 ok) (o .limit) 0 0 (o .alpha) F (alpha-finite o f0 s0 (supplied o f0 s0 ok)))
+      (ys ++ (y ∷ [])))
+      (ap refusalIn (ap shown (after-one-more (backtracking s) ys y) ∙ sym (told-at tied ys y)) ∙ e)
+
+  of-fresh : Searches o f0 s0 (freshOf s)
+  of-fresh = record {
+    never-five = never-five;
+    first-ask = first-asked s;
+    outcomes-are-rules = outcomes-are tied;
+    iterations-are-rules = λ ys.
+        let c = reachedBy ys in
+        sym (reports (c .setup) (c .iterations .0) (c .stage)) ∙ machines.reports tied _ _ (stands-at tied ys);
+    iterations-counted = λ ys.
+        let c = reachedBy ys in
+        one-fewer _ _ _ (c .stage) (stands-at tied ys .fits .counts)
+        ∙ ap (λ (n : ℕ). n - 1) (finite-counted tied ys);
+    refusing-start-shut-out = λ k starts. never-refused (startRows o f0 s0) (backtracking s) ok _ (starts .stands-for);
+    search-ends = ends-in-time tied;
+    evaluations-counted = finite-counted tied;
+    evaluations-bounded = finite-bounded tied;
+    non-finite-once = not-finite-once tied;
+  }
+
+pub searches : (o : Options) (f0 s0 : Float) (t : Turn) → startOf o f0 s0 ≡ value t → Searches o f0 s0 t
+searches o f0 s0 t began =
+    let given = passed (startRows o f0 s0) (freshOf (setupOf o f0 s0)) t began in
+    subst (Searches o f0 s0) (given .1) (of-fresh o f0 s0 (given .0))
+
+pub backtracking-demands : BacktrackingDemands
+unfolding inOrder
+backtracking-demands = record {
+  start = λ o f0 s0 r said. record { exactly = ap refusedBy said ∙ by-rows (startRows o f0 s0) _; ordered = refl };
+  answer = answered;
+  empty-shut-out = empty-shut-out;
+  second-ask = second-ask;
+  search-given = searches;
+}

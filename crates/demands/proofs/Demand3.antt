@@ -3,32 +3,32 @@
 use mathlib.Core.Path.{_≡_, refl, sym, ap, _∙_, subst}
 use mathlib.Core.Bool.{Bool, true, false, false≢true}
 use mathlib.Core.List.{List, [], _∷_}
-use Prim.Native.Nat.{ℕ, _+_, _*_, _≤_}
+use Prim.Native.Nat.{ℕ, _≤_}
+use native.Mathlib.Nat.{le-trans}
 use native.Mathlib.Omega.{arith}
 use lib.Ieee.{Float}
 use Rattle.refusals.specs.Results.{value}
 use Rattle.runs.specs.Outcomes.{Ending, stop, limit, refusal, Why, ends, numbered}
 use Rattle.runs.specs.Asking.{Rest, ask, end, Reply, respond, shown, reported, after}
 use Rattle.runs.proofs.Apart.{same-end, asks-not-ends}
-use Rattle.runs.proofs.Ends.{EndsWithin, ends-over, ends-accepted, non-finite-once}
+use Rattle.runs.proofs.Tied.{after-one-more, ends-in-time, finite-bounded, finite-counted, not-finite-once}
 use Rattle.refusals.proofs.Refusals.{Passed, passed}
 use Rattle.hagerzhang_rules.specs.declared.Point.{Point}
 use Rattle.hagerzhang_rules.specs.declared.Options.{Options}
 use Rattle.hagerzhang_rules.specs.declared.Setup.{Setup}
 use Rattle.hagerzhang_rules.specs.Parameters.{setupOf, startRows}
-use Rattle.hagerzhang_rules.specs.Rules.{answerFinite, Report, noneYet, last, iterationsIn, hagerZhang}
+use Rattle.hagerzhang_rules.specs.Rules.{Report, noneYet, last, iterationsIn, hagerZhang}
 use Rattle.hagerzhang_rules.specs.Iterations.{EndedBecause, by-verdict, by-limit, not-finite, trial-not-finite, U3-not-finite, budget-spent, not-between, already}
 use Rattle.hagerzhang_rules.proofs.UnderWay.{under-way}
-use Rattle.hagerzhang_rules.proofs.Ranges.{level-finite, min-finite, max-finite, start-finite, most-answers}
-use Rattle.hagerzhang_rules.proofs.Bounds.{search-within}
+use Rattle.hagerzhang_rules.proofs.Ranges.{most-answers}
 use Rattle.hagerzhang_rules.proofs.Demand3 as rules
 use Rattle.hagerzhang.specs.declared.state.Search.{Search}
 use Rattle.hagerzhang.specs.declared.state.Turn.{Turn}
 use Rattle.hagerzhang.specs.Machine.{freshOf, startOf}
 use Rattle.hagerzhang.specs.Meaning.{report}
-use Rattle.demands.specs.Runs.{reachedBy, and-then, finiteBy}
+use Rattle.demands.specs.Runs.{reachedBy, and-then}
 use Rattle.demands.specs.Demand3.{AtLimit, Bounded, Demand3}
-use Rattle.demands.proofs.Along.{after-one-more, report-at, report-next, over-at, told-at, asked-by, asked-at, finished-at, tallied-is, evaluations-are}
+use Rattle.demands.proofs.Along.{tied, report-at, report-next, told-at, asked-by, asked-at, finished-at}
 
 -- ---- an ending by the limit is at the N-th iteration
 step-at : Float → Ending ℕ → Float
@@ -65,18 +65,6 @@ module _ (o : Options) (f0 s0 : Float) (ok : Passed (startRows o f0 s0)) where
   abbrev b : Search
   b = t .search
 
-  within : EndsWithin answerFinite (3 + o .limit * (3 + 3 * o .budget)) (hagerZhang s)
-  within =
-      search-within s (level-finite o f0 s0 ok) (min-finite o f0 s0 ok) (max-finite o f0 s0 ok)
-      (start-finite o f0 s0 ok)
-
-  few-finite : (ys : List Reply) → finiteBy b ys ≤ 30030003
-  few-finite ys =
-      let same = tallied-is o f0 s0 ok answerFinite ys in
-      let h = ends-accepted answerFinite within ys in
-      let most = most-answers o f0 s0 ok in
-      omega arith
-
   few-iterations : (ys : List Reply) (k : Report) → report (reachedBy b ys) ≡ k → iterationsIn k ≤ o .limit
   few-iterations ys noneYet e = omega arith
   few-iterations ys (last p) e = rules.iterations-bounded o f0 s0 ok ys p (sym (report-at o f0 s0 ok ys) ∙ e)
@@ -103,12 +91,9 @@ module _ (o : Options) (f0 s0 : Float) (ok : Passed (startRows o f0 s0)) where
         (rules.each-iteration o f0 s0 ok ys y p q (sym (report-at o f0 s0 ok ys) ∙ e)
         (sym (report-next o f0 s0 ok ys y) ∙ e') n);
     iteration-bounded = λ ys. rw (asked-by o f0 s0 ok ys) (rules.iteration-bounded o f0 s0 ok ys);
-    search-ends = λ ys h. over-at o f0 s0 ok ys ∙ ends-over within ys h;
-    evaluations-counted = λ ys.
-        let same = tallied-is o f0 s0 ok answerFinite ys in
-        let few = few-finite ys in
-        evaluations-are o f0 s0 ok ys (omega arith) ∙ sym same;
-    evaluations-bounded = few-finite;
+    search-ends = ends-in-time (tied o f0 s0 ok);
+    evaluations-counted = finite-counted (tied o f0 s0 ok);
+    evaluations-bounded = λ ys. le-trans (finite-bounded (tied o f0 s0 ok) ys) (most-answers o f0 s0 ok);
     each-answer = λ ys y.
         rw (asked-at o f0 s0 ok ys y, report-at o f0 s0 ok ys, report-next o f0 s0 ok ys y)
         (rules.each-answer o f0 s0 ok ys y);
@@ -119,7 +104,7 @@ module _ (o : Options) (f0 s0 : Float) (ok : Passed (startRows o f0 s0)) where
     at-limit = λ ys y x e.
         rw (report-next o f0 s0 ok ys y)
         (ended ys y x (respond (after (hagerZhang s) ys) (y .0) (y .1)) refl (sym (told-at o f0 s0 ok ys y) ∙ e));
-    non-finite-once = λ ys. rw (tallied-is o f0 s0 ok _ ys) (non-finite-once within ys);
+    non-finite-once = not-finite-once (tied o f0 s0 ok);
   }
 
 -- ---- every search that `start` gave

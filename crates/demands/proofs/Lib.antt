@@ -5,7 +5,8 @@ pub mod Demand1
 pub mod Demand2
 pub mod Demand3
 pub mod Untouched
-pub mod Backtracking
 pub mod Tried
 pub mod Trials
+pub mod EmptyPrograms
+pub mod Backtracking
 pub mod Determined

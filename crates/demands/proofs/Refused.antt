@@ -34,7 +34,8 @@ use Rattle.hagerzhang.specs.Machine.{answerOf, freshOf, startOf}
 use Rattle.hagerzhang.specs.Meaning.{OfTheStep, not-refused, six, five, seven}
 use Rattle.demands.specs.Runs.{reachedBy, and-then}
 use Rattle.demands.specs.Demand1.{Reason, toldInU3, RefusedRightly}
-use Rattle.demands.proofs.Along.{after-one-more, report-at, report-next, told-at, asked-by}
+use Rattle.runs.proofs.Tied.{after-one-more}
+use Rattle.demands.proofs.Along.{report-at, report-next, told-at, asked-by}
 use Rattle.demands.proofs.Answered.{answered}
 
 -- ---- in U3, from its reasons

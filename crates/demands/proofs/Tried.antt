@@ -8,107 +8,101 @@ use lib.Dec.{leb}
 use lib.Ieee.{Float}
 use lib.Ieee.Scale.{finite}
 use Rattle.floats.specs.Arithmetic.{_⊗_}
-use Rattle.refusals.specs.Refusals.{given, inOrder}
-use Rattle.runs.specs.Counters.{oneMore, evaluations, iterations}
-use Rattle.runs.proofs.Apart.{asks-not-ends}
 use Rattle.floats.proofs.Branches.{either}
-use Rattle.runs.specs.declared.Outcome.the-variants.{Ask, Stop, Limit, Refused}
+use Rattle.refusals.specs.Refusals.{given, inOrder}
 use Rattle.refusals.specs.declared.Refusal.the-variants.{SuppliedNotFinite, StepNotFinite}
+use Rattle.runs.specs.Outcomes.{Ending, ends, told, refusalIn}
+use Rattle.runs.specs.Counters.{oneMore, evaluations, iterations}
+use Rattle.runs.specs.declared.Outcome.{Outcome}
+use Rattle.runs.specs.declared.Outcome.the-variants.{Ask, Stop, Limit, Refused}
 use Rattle.runs.specs.declared.Verdict.the-variants.{Met}
 use Rattle.runs.specs.declared.Iterations.{Iterations}
+use Rattle.runs.proofs.Apart.{asks-not-ends}
 use Rattle.conditions.specs.Conditions.{answerFinite, holdsOf}
-use Rattle.backtracking.specs.declared.Setup.{Setup as Trials}
-use Rattle.backtracking.specs.declared.Stage.{Stage as Trying}
-use Rattle.backtracking.specs.declared.Stage.the-variants.{First, Later, Over as TriedOut}
+use Rattle.backtracking.specs.declared.Setup.{Setup}
+use Rattle.backtracking.specs.declared.Stage.{Stage}
+use Rattle.backtracking.specs.declared.Stage.the-variants.{First, Later, Over}
 use Rattle.backtracking.specs.declared.Backtracking.{Backtracking}
 use Rattle.backtracking.specs.declared.Turn.{Turn}
 use Rattle.backtracking.specs.Machine.{madeOf, triedOf, answerBy, AnswerSaid}
-use Rattle.demands.specs.Backtracking.{triedOut, nextTrial, trialDue, notFinite, trialsRows, trialsKept, Tried}
+use Rattle.backtracking.specs.Meaning.{isOver}
+use Rattle.demands.specs.Backtracking.{nextTrial, trialDue, notFinite, trialsRows, trialsKept, Tried}
 
 -- a trial at t, with which `now` iterations are counted
-module _ (b : Backtracking) (f g : Float) (stage : Trying) (w : b .stage ≡ stage) (o : triedOut stage ≡ false)
+module _ (b : Backtracking) (f g : Float) (stage : Stage) (w : b .stage ≡ stage) (o : isOver stage ≡ false)
     (now : Iterations) (t : Float)
     (due : trialDue b stage f g ≡ nextTrial (b .setup) (now .0) t f g)
-    (kept : trialsKept b stage f g ≡ cond (answerFinite (b .setup .condition) f g) (now .0) (b .iterations .0)) where
-  abbrev s : Trials
-  s = b .setup
+    (kept : trialsKept b stage f g ≡ cond (answerFinite (b .setup .options .condition) f g) (now .0) (b .iterations .0))
+  where
+    abbrev s : Setup
+    s = b .setup
 
-  runs : triedOut (b .stage) ≡ false
-  runs = ap triedOut w ∙ o
+    abbrev isFinite : Bool
+    isFinite = answerFinite (s .options .condition) f g
 
-  not-over : {A : Type 0} → triedOut (b .stage) ≡ true → A
-  not-over q = absurd (false≢true (sym runs ∙ q))
+    runs : isOver (b .stage) ≡ false
+    runs = ap isOver w ∙ o
 
-  rows : given (trialsRows b f g)
-      ≡ cond (not (answerFinite (s .condition) f g)) (some 2)
-      (cond (notFinite (nextTrial s (now .0) t f g)) (some 5) none)
-  unfolding given
-  rows = rw (runs, ap (λ (at : Trying). trialDue b at f g) w ∙ due)
+    rows : given (trialsRows b f g)
+        ≡ cond (not isFinite) (some 2) (cond (notFinite (nextTrial s (now .0) t f g)) (some 5) none)
+    unfolding given
+    rows = rw (runs, ap (λ (at : Stage). trialDue b at f g) w ∙ due)
 
-  kept-if : (a : Bool) → answerFinite (s .condition) f g ≡ a
-      → cond a (now .0) (b .iterations .0) ≡ trialsKept b (b .stage) f g
-  kept-if a e =
-      sym (ap (λ (at : Trying). trialsKept b at f g) w ∙ kept ∙ ap (λ (v : Bool). cond v (now .0) (b .iterations .0)) e)
+    keeps-if : (a : Bool) → isFinite ≡ a → cond a (now .0) (b .iterations .0) ≡ trialsKept b (b .stage) f g
+    keeps-if a e =
+        sym (ap (λ (at : Stage). trialsKept b at f g) w ∙ kept
+      ∙ ap (λ (v : Bool). cond v (now .0) (b .iterations .0)) e)
 
-  tries : (a h l x : Bool) → answerFinite (s .condition) f g ≡ a → holdsOf (s .condition) (s .f0) (s .s0) t f g ≡ h
-      → leb (s .limit) (now .0) ≡ l → finite (t ⊗ s .rho) ≡ x
-      → Tried b f g
-      (let m = evaluations (oneMore (b .evaluations .0)) in
-      cond a
-      (cond h (madeOf s m now TriedOut (Stop Met t))
-      (cond l (madeOf s m now TriedOut (Limit t))
-      (cond x (madeOf s m now (Later (t ⊗ s .rho)) (Ask (t ⊗ s .rho)))
-      (madeOf s m now TriedOut (Refused StepNotFinite)))))
-      (madeOf s (b .evaluations) (b .iterations) TriedOut (Refused SuppliedNotFinite)))
-  unfolding inOrder
-  tries false h l x ea eh el ex = record {
-    refused-by = record { exactly = rw (rows, ea); ordered = refl };
-    unchanged = not-over;
-    over = λ e q. refl;
-    keeps = λ n q. kept-if false ea;
-    counts = rw (runs, ea);
-  }
-  tries true true l x ea eh el ex = record {
-    refused-by = record { exactly = rw (rows, ea, eh); ordered = refl };
-    unchanged = not-over;
-    over = λ e q. refl;
-    keeps = λ n q. absurd (Option·none-ne-some n q);
-    counts = rw (runs, ea);
-  }
-  tries true false true x ea eh el ex = record {
-    refused-by = record { exactly = rw (rows, ea, eh, el); ordered = refl };
-    unchanged = not-over;
-    over = λ e q. refl;
-    keeps = λ n q. absurd (Option·none-ne-some n q);
-    counts = rw (runs, ea);
-  }
-  tries true false false true ea eh el ex = record {
-    refused-by = record { exactly = rw (rows, ea, eh, el, ex); ordered = refl };
-    unchanged = not-over;
-    over = λ e q. absurd (asks-not-ends _ e (sym q));
-    keeps = λ n q. absurd (Option·none-ne-some n q);
-    counts = rw (runs, ea);
-  }
-  tries true false false false ea eh el ex = record {
-    refused-by = record { exactly = rw (rows, ea, eh, el, ex); ordered = refl };
-    unchanged = not-over;
-    over = λ e q. refl;
-    keeps = λ n q. kept-if true ea;
-    counts = rw (runs, ea);
-  }
+    -- an outcome that is told as the rows say
+    comes : (a : Bool) → isFinite ≡ a → (i : Iterations) (at : Stage) (out : Outcome)
+        → refusalIn (told out) ≡ given (trialsRows b f g)
+        → ((e : Ending ℕ) → told out ≡ ends e → isOver at ≡ true)
+        → ((n : ℕ) → refusalIn (told out) ≡ some n → i .0 ≡ trialsKept b (b .stage) f g)
+        → Tried b f g (madeOf s (evaluations (cond a (oneMore (b .evaluations .0)) (b .evaluations .0))) i at out)
+    unfolding inOrder
+    comes a e i at out by over keeps = record {
+      refused-by = record { exactly = by; ordered = refl };
+      unchanged = λ q. absurd (false≢true (sym runs ∙ q));
+      over = over;
+      keeps = keeps;
+      counts = rw (runs, e);
+    }
 
-  tried : Tried b f g (triedOf s (b .evaluations) (b .iterations) now t f g)
-  unfolding triedOf
-  tried =
-      tries (answerFinite (s .condition) f g) (holdsOf (s .condition) (s .f0) (s .s0) t f g) (leb (s .limit) (now .0))
-      (finite (t ⊗ s .rho)) refl refl refl refl
+    tries : (a h l x : Bool) → isFinite ≡ a → holdsOf (s .options .condition) (s .f0) (s .s0) t f g ≡ h
+        → leb (s .options .limit) (now .0) ≡ l → finite (t ⊗ s .options .rho) ≡ x
+        → Tried b f g
+        (let m = evaluations (oneMore (b .evaluations .0)) in
+        cond a
+        (cond h (madeOf s m now Over (Stop Met t))
+        (cond l (madeOf s m now Over (Limit t))
+        (cond x (madeOf s m now (Later (t ⊗ s .options .rho)) (Ask (t ⊗ s .options .rho)))
+        (madeOf s m now Over (Refused StepNotFinite)))))
+        (madeOf s (b .evaluations) (b .iterations) Over (Refused SuppliedNotFinite)))
+    tries false h l x ea eh el ex =
+        comes false ea (b .iterations) Over (Refused SuppliedNotFinite) (rw (rows, ea)) (λ e q. refl)
+        (λ n q. keeps-if false ea)
+    tries true true l x ea eh el ex =
+        comes true ea now Over (Stop Met t) (rw (rows, ea, eh)) (λ e q. refl) (λ n q. absurd (Option·none-ne-some n q))
+    tries true false true x ea eh el ex =
+        comes true ea now Over (Limit t) (rw (rows, ea, eh, el)) (λ e q. refl) (λ n q. absurd (Option·none-ne-some n q))
+    tries true false false true ea eh el ex =
+        comes true ea now (Later _) (Ask _) (rw (rows, ea, eh, el, ex)) (λ e q. absurd (asks-not-ends _ e (sym q)))
+        (λ n q. absurd (Option·none-ne-some n q))
+    tries true false false false ea eh el ex =
+        comes true ea now Over (Refused StepNotFinite) (rw (rows, ea, eh, el, ex)) (λ e q. refl)
+        (λ n q. keeps-if true ea)
 
-by-stage : (b : Backtracking) (f g : Float) (stage : Trying) → b .stage ≡ stage → Tried b f g (answerBy b f g stage)
+    tried : Tried b f g (triedOf s (b .evaluations) (b .iterations) now t f g)
+    unfolding triedOf
+    tried = tries _ _ _ _ refl refl refl refl
+
+by-stage : (b : Backtracking) (f g : Float) (stage : Stage) → b .stage ≡ stage → Tried b f g (answerBy b f g stage)
 unfolding answerBy given inOrder
-by-stage b f g First w = tried b f g First w refl (b .iterations) (b .setup .alpha) refl
-    (sym (either (λ (n : ℕ). n) (answerFinite (b .setup .condition) f g) _ _ (b .iterations .0) refl refl))
+by-stage b f g First w =
+    tried b f g First w refl (b .iterations) (b .setup .options .alpha) refl
+    (sym (either (λ (n : ℕ). n) (answerFinite (b .setup .options .condition) f g) _ _ (b .iterations .0) refl refl))
 by-stage b f g (Later t) w = tried b f g (Later t) w refl (iterations (oneMore (b .iterations .0))) t refl refl
-by-stage b f g TriedOut w = record {
+by-stage b f g Over w = record {
   refused-by = record { exactly = rw w; ordered = refl };
   unchanged = λ q. refl;
   over = λ e q. rw w;

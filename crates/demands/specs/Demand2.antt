@@ -25,7 +25,7 @@ use Rattle.hagerzhang.specs.declared.state.Search.{Search}
 use Rattle.hagerzhang.specs.declared.state.Turn.{Turn}
 use Rattle.hagerzhang.specs.declared.state.Started.the-variants.{NoSearch}
 use Rattle.hagerzhang.specs.Machine.{awaitedOf, startOf, AnswerSaid}
-use Rattle.hagerzhang.specs.Meaning.{report, dueTold, Starts, Follows}
+use Rattle.hagerzhang.specs.Meaning.{report, isOver, dueTold, Starts, Follows}
 use Rattle.demands.specs.Runs.{reachedBy, toldBy}
 
 -- ---- a search t that `start` gave for the options o, and the cost f0 and slope s0 at step 0
@@ -47,14 +47,14 @@ module _ (o : Options) (f0 s0 : Float) (t : Turn) where
     -- every number that is ever reported is finite; so one of 01's three tests for the best held
     pub report-finite : (ys : List Reply) → reportFinite (report (reachedBy (t .search) ys)) ≡ true
     -- 01's empty programs break this: "One that refuses everything, one that asks the same step each time, and one that
-    -- hands the state back untouched", at a start, or at the first answer
+    -- hands the state back untouched", at a start, at the first answer, or at any
     pub refusing-start-shut-out : (k : Refusal) → Starts o f0 s0 (NoSearch k) → ⊥
     pub refusing-shut-out : (f g : Float) → answerFinite f g ≡ true → (r : Turn) → Follows (t .search) f g r → (n : ℕ)
         → refusalIn (told (r .outcome)) ≡ some n → ⊥
     pub same-step-shut-out : (f g : Float) → answerFinite f g ≡ true → (r : Turn) → Follows (t .search) f g r
         → told (r .outcome) ≡ told (t .outcome) → ⊥
-    pub untouched-shut-out : (f g : Float) → answerFinite f g ≡ true → (r : Turn) → Follows (t .search) f g r
-        → r .search ≡ t .search → ⊥
+    pub untouched-shut-out : (ys : List Reply) → isOver (reachedBy (t .search) ys .stage) ≡ false → (f g : Float)
+        → (r : Turn) → Follows (reachedBy (t .search) ys) f g r → r .search ≡ reachedBy (t .search) ys → ⊥
 
 -- a search that some start gave
 pub record GivenByStart (t : Turn) : Type 0 where

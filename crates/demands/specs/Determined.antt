@@ -21,7 +21,7 @@ use Rattle.jobs.specs.Opening.{BeginSaid}
 use Rattle.play.specs.declared.Played.{Played}
 use Rattle.play.specs.declared.Written.{Written}
 use Rattle.play.specs.Playing.{PlaySaid}
-use Rattle.backtracking.specs.declared.Setup.{Setup as Trials}
+use Rattle.backtracking.specs.declared.Options.{Options as Trials}
 use Rattle.backtracking.specs.declared.Backtracking.{Backtracking}
 use Rattle.backtracking.specs.Machine as trials
 use Rattle.hagerzhang_rules.specs.declared.Options.{Options}
@@ -39,7 +39,7 @@ pub record Determined : Type 1 where
   pub numbered : (n : ℕ) → One (NumberedSaid n)
   pub read : (bytes : List ℕ) → One (ReadSaid bytes)
   pub begin : (bytes : List ℕ) → One (BeginSaid bytes)
-  pub trials-start : (s : Trials) → One (trials.StartSaid s)
+  pub trials-start : (o : Trials) (f0 s0 : Float) → One (trials.StartSaid o f0 s0)
   pub trials-answer : (b : Backtracking) (f g : Float) → One (trials.AnswerSaid b f g)
   pub start : (o : Options) (f0 s0 : Float) → One (StartSaid o f0 s0)
   pub answer : (s : Search) (f g : Float) → One (AnswerSaid s f g)

@@ -1,13 +1,13 @@
 -- A Hager-Zhang search of the machine, along any answers: the state that is reached, what is told, what was asked in
 -- the iteration under way, and what is counted. `answerOf` is what `answer` gives, by its contract.
 use Prim.Native.Nat.{ℕ, _+_}
-use mathlib.Core.Bool.{Bool, cond, not}
+use mathlib.Core.Bool.{cond, not}
 use mathlib.Core.List.{List, [], _∷_, _++_}
 use mathlib.Core.Option.{Option, some, none}
 use lib.Dec.{ltb}
 use lib.Ieee.{Float}
 use Rattle.runs.specs.Outcomes.{Told, told}
-use Rattle.runs.specs.Asking.{Reply, reached, played, tallied}
+use Rattle.runs.specs.Asking.{Reply, Machine, reached, played, toldNext, tallied}
 use Rattle.hagerzhang_rules.specs.declared.Point.{Point}
 use Rattle.hagerzhang_rules.specs.Rules.{point, answerFinite, iterationsIn}
 use Rattle.hagerzhang_rules.specs.Iterations.{progress}
@@ -19,31 +19,28 @@ use Rattle.hagerzhang.specs.Meaning.{report, isOver, dueTold}
 abbrev pub next : Search → Float → Float → Search
 next s f g = answerOf s f g .search
 
-abbrev pub says : Search → Float → Float → Told
-says s f g = told (answerOf s f g .outcome)
+abbrev pub machine : Machine Search
+machine = record { next = next; says = λ s f g. told (answerOf s f g .outcome); over = λ s. isOver (s .stage) }
 
 -- any answers: the state then, all that was told on the way, and what is told at one more
 abbrev pub reachedBy : Search → List Reply → Search
-reachedBy s ys = reached next s ys
+reachedBy s ys = reached machine s ys
 
 abbrev pub toldBy : Search → List Reply → List Told
-toldBy s ys = played next says s ys
+toldBy s ys = played machine s ys
 
 abbrev pub toldAt : Search → List Reply → Reply → Told
-toldAt s ys y = says (reachedBy s ys) (y .0) (y .1)
+toldAt s ys y = toldNext machine s ys y
 
 abbrev pub and-then : List Reply → Reply → List Reply
 and-then ys y = ys ++ (y ∷ [])
 
-abbrev pub isAsking : Search → Bool
-isAsking s = not (isOver (s .stage))
-
 -- "the finite answers accepted", and those that were given while it asked and were not finite
 abbrev pub finiteBy : Search → List Reply → ℕ
-finiteBy s ys = tallied next isAsking answerFinite s ys
+finiteBy s ys = tallied machine answerFinite s ys
 
 abbrev pub notFiniteBy : Search → List Reply → ℕ
-notFiniteBy s ys = tallied next isAsking (λ f g. not (answerFinite f g)) s ys
+notFiniteBy s ys = tallied machine (λ f g. not (answerFinite f g)) s ys
 
 -- the points asked in the start or the iteration under way, with their answers, newest first: an answer that brings the
 -- report further finishes it, and the next begins with nothing asked

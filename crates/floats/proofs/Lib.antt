@@ -6,4 +6,5 @@ pub mod Compare
 pub mod Order
 pub mod Rounding
 pub mod Growth
+pub mod Shrinks
 pub mod Same

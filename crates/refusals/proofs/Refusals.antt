@@ -1,7 +1,7 @@
 -- A table of refusals read both ways: a number is given exactly when its row is the first whose condition holds. Once
 -- for every table. Assumes nothing.
 use Prim.Native.Nat.{ℕ}
-use mathlib.Core.Path.{_≡_, refl, sym, ap}
+use mathlib.Core.Path.{_≡_, refl, sym, ap, _∙_}
 use mathlib.Core.Bool.{Bool, true, false, cond}
 use mathlib.Core.List.{List, [], _∷_}
 use mathlib.Core.Option.{some, Option·none-ne-some, Option·some-injective}
@@ -65,6 +65,9 @@ module _ {A : Type 0} where
   pub value-given : (rows : List Row) (a : A) → Passed rows → (refuse rows else a) ≡ value a
   value-given [] a all = refl
   value-given (r ∷ rows) a (and t p) = rw t (value-given rows a p)
+
+  pub never-refused : (rows : List Row) (a : A) → Passed rows → (n : ℕ) → refused n ≡ (refuse rows else a) → ⊥
+  never-refused rows a p n e = not-refused n a (e ∙ value-given rows a p)
 
 -- two results by the same rows, each read in its way: alike where the values are, and every refusal
 pub alike : {A B T : Type 0} (h : Result A → T) (k : Result B → T) → ((n : ℕ) → h (refused n) ≡ k (refused n))

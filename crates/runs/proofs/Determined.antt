@@ -7,7 +7,8 @@ use Rattle.runs.specs.declared.Verdict.the-variants.{Met, Wolfe, Approxi
 use Rattle.refusals.proofs.Determined.{withNumber, number-back}
 use Rattle.runs.specs.declared.Outcome.{Outcome}
 use Rattle.runs.specs.declared.Outcome.the-variants.{Ask, Stop, Limit, Refused}
-use Rattle.runs.specs.Outcomes.{Word, met, wolfe, approximate, stop, limit, refusal, Told, asks, ends, verdictWord, told}
+use Rattle.runs.specs.Outcomes.{Word, met, wolfe, approximate, stop, limit, refusal}
+use Rattle.runs.specs.Outcomes.{Told, asks, ends, verdictWord, told}
 
 withWord : Word → Verdict
 withWord met = Met

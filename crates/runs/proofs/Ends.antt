@@ -1,6 +1,6 @@
 -- A search that ends within n answers, whatever they are, and in which an answer that is not finite is refused (2) and
 -- the last: it is over after n answers, accepts at most n, and of those that it is given while it asks at most one is
--- not finite. Assumes nothing.
+-- not finite. And what is true of every end that a search can come to. Assumes nothing.
 use mathlib.Core.Path.{_≡_, refl}
 use mathlib.Core.Bool.{Bool, true, false, cond, not}
 use mathlib.Core.List.{List, [], _∷_}
@@ -9,10 +9,9 @@ use native.Mathlib.Nat.{not-suc-le-zero, le-of-suc-le-suc}
 use native.Mathlib.Omega.{arith}
 use lib.ListN.{length}
 use lib.Ieee.{Float}
-use Rattle.runs.proofs.Machines.{none-more}
-use Rattle.runs.specs.Outcomes.{refusal, answerNotFinite}
+use Rattle.runs.specs.Outcomes.{Ending, refusal, Why, answerNotFinite, alreadyOver}
 use Rattle.runs.specs.Asking.{ask, end, Rest, Ended, endWith, keeping, question, Reply, respond, isOver, after}
-use Rattle.runs.proofs.Accepted.{accepted, notFinite}
+use Rattle.runs.proofs.Accepted.{accepted, notFinite, none-more}
 
 pub data EndsWithin {K : Type 0} (finite : Float → Float → Bool) : ℕ → Rest K → Type 0 where
   at-end : {n : ℕ} {o : Ended K} → EndsWithin finite n (end o)
@@ -25,6 +24,11 @@ one-at-most true m n h = omega arith
 one-at-most false m n h = omega arith
 
 module _ {K : Type 0} where
+  -- what is true of both searches, of which a test chooses one
+  pub either-way : (P : Rest K → Type 0) (b : Bool) {r q : Rest K} → P r → P q → P (cond b r q)
+  either-way P true h k = h
+  either-way P false h k = k
+
   stays-over : (o : Ended K) (ys : List Reply) → isOver (after (end o) ys) ≡ true
   unfolding isOver after respond
   stays-over o [] = refl
@@ -36,15 +40,23 @@ module _ {K : Type 0} {finite : Float → Float → Bool} where
   ends-within (at-ask u e) zero h = absurd (not-suc-le-zero h)
   ends-within (at-ask u e) (suc m) h = at-ask u (λ f g. ends-within (e f g) m (le-of-suc-le-suc h))
 
-  pub ends-if : {n : ℕ} (b : Bool) {r q : Rest K} → EndsWithin finite n r → EndsWithin finite n q → EndsWithin finite n (cond b r q)
-  ends-if true h k = h
-  ends-if false h k = k
-
   pub question-ends : {n : ℕ} (k : K) (x : Float) (then : Float → Float → Rest K)
-      → ((f g : Float) → EndsWithin finite n (then f g)) → EndsWithin finite (suc n) (question finite (keeping k) k x then)
+      → ((f g : Float) → EndsWithin finite n (then f g))
+      → EndsWithin finite (suc n) (question finite (keeping k) k x then)
   question-ends k x then e =
       at-ask {k = k} {then = λ f g. cond (finite f g) (then f g) (endWith k (refusal (answerNotFinite f g)))}
-      (λ f g u. rw u) (λ f g. ends-if (finite f g) (e f g) at-end)
+      (λ f g u. rw u) (λ f g. either-way (EndsWithin finite _) (finite f g) (e f g) at-end)
+
+  -- and after any answers within as many more
+  ends-next : {n : ℕ} {r : Rest K} → EndsWithin finite n r → (f g : Float) → EndsWithin finite n (respond r f g)
+  unfolding respond
+  ends-next at-end f g = at-end
+  ends-next (at-ask {n = n} u e) f g = ends-within (e f g) (suc n) (omega arith)
+
+  pub ends-after : {n : ℕ} (r : Rest K) → EndsWithin finite n r → (ys : List Reply) → EndsWithin finite n (after r ys)
+  unfolding after
+  ends-after r e [] = e
+  ends-after r e (y ∷ ys) = ends-after (respond r (y .0) (y .1)) (ends-next e (y .0) (y .1)) ys
 
   pub ends-over : {n : ℕ} {r : Rest K} → EndsWithin finite n r → (ys : List Reply) → n ≤ length ys
       → isOver (after r ys) ≡ true
@@ -77,3 +89,16 @@ module _ {K : Type 0} {finite : Float → Float → Bool} where
           → cond (not b) 1 0 + accepted (λ f g. not (finite f g)) (then (y .0) (y .1)) ys ≤ 1
       by true t h = omega arith
       by false t h = rw (u (y .0) (y .1) t, none-more _ (λ f g. not (finite f g)) ys) (omega arith)
+
+-- ---- what is true of every end that a search can come to, and of 8
+pub data EndsBy {K : Type 0} (P : Ending Why → Type 0) : Rest K → Type 0 where
+  it-ends : {o : Ended K} → P (o .by) → EndsBy P (end o)
+  it-asks : {k : K} {x : Float} {then : Float → Float → Rest K} → ((f g : Float) → EndsBy P (then f g))
+      → EndsBy P (ask k x then)
+
+module _ {K : Type 0} {P : Ending Why → Type 0} where
+  pub by-after : P (refusal alreadyOver) → (r : Rest K) → EndsBy P r → (ys : List Reply) → EndsBy P (after r ys)
+  unfolding after respond
+  by-after over r h [] = h
+  by-after over (end o) h (y ∷ ys) = by-after over _ (it-ends over) ys
+  by-after over (ask k x then) (it-asks h) (y ∷ ys) = by-after over _ (h (y .0) (y .1)) ys

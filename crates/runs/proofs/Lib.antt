@@ -1,5 +1,6 @@
 pub mod Accepted
 pub mod Ends
 pub mod Machines
+pub mod Tied
 pub mod Determined
 pub mod Apart

@@ -2,7 +2,7 @@
 -- The rules of a search are written as a run: it asks for cost and slope at a step and goes on by the answer, until it
 -- has a result.
 use Prim.Native.Nat.{ℕ, _+_}
-use mathlib.Core.Bool.{Bool, true, false, cond, _&&_}
+use mathlib.Core.Bool.{Bool, true, false, cond, not, _&&_}
 use mathlib.Core.List.{List, [], _∷_}
 use mathlib.Core.Option.{Option, some, none}
 use lib.Ieee.{Float}
@@ -83,19 +83,27 @@ module _ {K R : Type 0} (isFinite : Float → Float → Bool) (refuse : Why → 
   abbrev pub question : Float → (Float → Float → Run K R) → Run K R
   question x then = ask k x (λ f g. cond (isFinite f g) (then f g) (end (refuse (answerNotFinite f g))))
 
--- ---- a machine with states S, of which `next` gives the next state: the same for any list of answers
-module _ {S : Type 0} (next : S → Float → Float → S) where
+-- ---- a machine with states S: its next state, what it says, and whether it is over. The same for any list of answers
+pub record Machine (S : Type 0) : Type 0 where
+  pub next : S → Float → Float → S
+  pub says : S → Float → Float → Told
+  pub over : S → Bool
+
+module _ {S : Type 0} (m : Machine S) where
   unfoldable pub reached : S → List Reply → S
   reached s [] = s
-  reached s (y ∷ ys) = reached (next s (y .0) (y .1)) ys
+  reached s (y ∷ ys) = reached (m .next s (y .0) (y .1)) ys
 
-  -- what is told, by `says`
-  unfoldable pub played : (S → Float → Float → Told) → S → List Reply → List Told
-  played says s [] = []
-  played says s (y ∷ ys) = says s (y .0) (y .1) ∷ played says (next s (y .0) (y .1)) ys
+  unfoldable pub played : S → List Reply → List Told
+  played s [] = []
+  played s (y ∷ ys) = m .says s (y .0) (y .1) ∷ played (m .next s (y .0) (y .1)) ys
+
+  -- what is told at one more answer
+  abbrev pub toldNext : S → List Reply → Reply → Told
+  toldNext s ys y = m .says (reached s ys) (y .0) (y .1)
 
   -- how many of the answers are given while it asks, and pass the test
-  unfoldable pub tallied : (S → Bool) → (Float → Float → Bool) → S → List Reply → ℕ
-  tallied awaiting test s [] = 0
-  tallied awaiting test s (y ∷ ys) =
-      cond (awaiting s && test (y .0) (y .1)) 1 0 + tallied awaiting test (next s (y .0) (y .1)) ys
+  unfoldable pub tallied : (Float → Float → Bool) → S → List Reply → ℕ
+  tallied test s [] = 0
+  tallied test s (y ∷ ys) =
+      cond (not (m .over s) && test (y .0) (y .1)) 1 0 + tallied test (m .next s (y .0) (y .1)) ys

@@ -9,7 +9,7 @@ use Rattle.backtracking.proofs.answer.Statement.{statement}
 use Rattle.backtracking.proofs.answer.Tie as tie
 
 -- The state was handed in, so each number in it fits its type: `omega` reads that from `c .good`.
-limit-fits : (c : tie.Start) → c .args .s .setup .limit < 4294967296
+limit-fits : (c : tie.Start) → c .args .s .setup .options .limit < 4294967296
 limit-fits c = omega arith
 
 returns : tie.Need-returns

@@ -8,24 +8,24 @@ use Rattle.backtracking.proofs.start.Statement.{statement}
 use Rattle.backtracking.proofs.start.Tie as tie
 
 -- behind the first test
-all-finite : (c : tie.Else1) → suppliedFinite (c .before .before .args .s) ≡ true
+all-finite : (c : tie.Else1) → let a = c .before .before .args in suppliedFinite (a .o) (a .f0) (a .s0) ≡ true
 all-finite c = not-not-by-call _ _ (c .before .supplied-finite .ensures) (c .if1 .left)
 
 returns : tie.Need-returns
-returns c = start-promised _ _ (rw (not-by-call _ _ (c .before .supplied-finite .ensures) (c .if1 .taken)))
+returns c = start-promised _ _ _ _ (rw (not-by-call _ _ (c .before .supplied-finite .ensures) (c .if1 .taken)))
 
 returns-2 : tie.Need-returns-2
 returns-2 c =
-    start-promised _ _
+    start-promised _ _ _ _
     (rw (all-finite (c .before .before), not-by-call _ _ (c .before .in-ranges .ensures) (c .if2 .taken)))
 
 returns-3 : tie.Need-returns-3
 returns-3 c =
-    start-promised _ _
+    start-promised _ _ _ _
     (rw (
       all-finite (c .before .before .before),
       not-not-by-call _ _ (c .before .before .in-ranges .ensures) (c .before .if2 .left),
-      c .made .ensures,
+      c .fresh .ensures,
     ))
 
 pub start-spec : {M : Type 1} → statement M

@@ -9,12 +9,13 @@ use Rattle.backtracking.proofs.tried.Statement.{statement}
 use Rattle.backtracking.proofs.tried.Tie as tie
 
 -- behind the first test the answer is finite, and behind the second it does not meet the condition
-is-finite : (c : tie.Else1) → let a = c .before .before .args in answerFinite (a .s .condition) (a .f) (a .g) ≡ true
+is-finite : (c : tie.Else1)
+    → let a = c .before .before .before .args in answerFinite (a .s .options .condition) (a .f) (a .g) ≡ true
 is-finite c = not-not-by-call _ _ (c .before .answer-finite .ensures) (c .if1 .left)
 
 not-met : (c : tie.Else2)
-    → let a = c .before .before .before .before .before .args in
-    holdsOf (a .s .condition) (a .s .f0) (a .s .s0) (a .t) (a .f) (a .g) ≡ false
+    → let a = c .before .before .before .before .before .before .args in
+    holdsOf (a .s .options .condition) (a .s .f0) (a .s .s0) (a .t) (a .f) (a .g) ≡ false
 not-met c = by-call _ _ _ (c .before .holds .ensures) (c .if2 .left)
 
 returns : tie.Need-returns

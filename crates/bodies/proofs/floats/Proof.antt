@@ -33,7 +33,9 @@ loop-again c =
       search needs,
       simp length-set (l .loop .inv .1),
       c .next .ensures .0,
-      rw (c .before .float .ensures) (one-more _ (l .loop .v) (l .loop .i) n _ _ (l .loop .inv .1) (search needs) (c .next .ensures .1) (l .loop .inv .3)),
+      rw (c .before .float .ensures)
+          (one-more _ (l .loop .v) (l .loop .i) n _ _ (l .loop .inv .1) (search needs) (c .next .ensures .1)
+          (l .loop .inv .3)),
     )
 
 returns : tie.Need-returns Inv-loop μ-loop
@@ -43,5 +45,7 @@ returns c =
 
 pub floats-spec : {M : Type 1} → statement M
 floats-spec =
-    tie.close (tie.spec Inv-loop μ-loop (λ c κs. search needs) loop-holds (λ c κs. search needs) (λ c. search needs) (λ c. search needs)
-    (λ c κs. search needs) (λ c. search needs) (λ c. search needs) loop-again (λ c. search needs) returns)
+    tie.close
+    (tie.spec Inv-loop μ-loop (λ c κs. search needs) loop-holds (λ c κs. search needs) (λ c. search needs)
+    (λ c. search needs) (λ c κs. search needs) (λ c. search needs) (λ c. search needs) loop-again (λ c. search needs)
+    returns)

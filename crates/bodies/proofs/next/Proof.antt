@@ -17,5 +17,6 @@ next-spec =
     (λ c. search needs) (λ c. search needs)
     (λ c.
     let a = c .before .args in
-    (le-refl _, both-past (now (a .body)) _ (a .at + 8) (le-refl _) (omega arith) ∙ sym (drop-drop 8 (a .at) (now (a .body)))))
+    let past = both-past (now (a .body)) _ (a .at + 8) (le-refl _) (omega arith) in
+    (le-refl _, past ∙ sym (drop-drop 8 (a .at) (now (a .body)))))
     (λ c. let a = c .before .args in (omega arith, sym (drop-drop 8 (a .at) (now (a .body))))))

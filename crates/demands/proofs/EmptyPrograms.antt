@@ -1,0 +1,107 @@
+-- 01, "How tight the contracts are": a program that refuses everything, one that asks the same step each time and one
+-- that hands the state back untouched break demand 2. None of them meets the clause `rules` of backtracking's `answer`
+-- (`empty-shut-out`); and what the rules do instead (`second-ask`). Hager-Zhang's stand in Demand2.antt. Assumes
+-- nothing.
+use mathlib.Core.Path.{_≡_, sym, ap, _∙_}
+use mathlib.Core.Bool.{true, false, false≢true}
+use mathlib.Core.Option.{some, Option·none-ne-some, Option·some-injective}
+use Prim.Native.Nat.{ℕ}
+use lib.Ieee.{Float, mul, lt, ofBits, ofInt}
+use lib.Ieee.Scale.{finite}
+use Rattle.floats.specs.Arithmetic.{_⊗_, _<ᶠ_, 1ᶠ}
+use Rattle.refusals.proofs.Refusals.{passed}
+use Rattle.runs.specs.Outcomes.{asks, told, refusalIn}
+use Rattle.runs.specs.Asking.{Rest, respond, shown, awaits, isOver, onceTold}
+use Rattle.runs.proofs.Tied.{moves-on}
+use Rattle.conditions.specs.declared.Condition.{Condition}
+use Rattle.conditions.specs.Conditions.{answerFinite, holdsOf}
+use Rattle.backtracking.specs.declared.Options.{Options}
+use Rattle.backtracking.specs.declared.Setup.{Setup}
+use Rattle.backtracking.specs.declared.Stage.{Stage}
+use Rattle.backtracking.specs.declared.Stage.the-variants.{First, Later, Over}
+use Rattle.backtracking.specs.declared.Backtracking.{Backtracking}
+use Rattle.backtracking.specs.declared.Turn.{Turn}
+use Rattle.backtracking.specs.declared.Started.the-variants.{Began}
+use Rattle.backtracking.specs.Backtracking.{defaultsOf, startRows, setupOf, trials, backtracking}
+use Rattle.backtracking.specs.Meaning.{meaning, meant, Starts, Follows}
+use Rattle.backtracking.proofs.Bridge.{question-at}
+use Rattle.demands.specs.Backtracking.{EmptyShutOut}
+use Rattle.demands.proofs.Trials.{ranges, limit-left, trials-rest, trials-end}
+use Rattle.demands.proofs.Trials.{no-refusal, asks-next, asks-shorter}
+
+-- ---- a state that awaits an answer at x stands for a trial there
+record Waits (s : Setup) (x : Float) (r : Rest ℕ) : Type 0 where
+  left : ℕ
+  before : ℕ
+  now : ℕ
+  stands : r ≡ trials s left before now x
+
+at-trial : (s : Setup) (k before now : ℕ) (t x : Float) → awaits (trials s k before now t) ≡ some x
+    → Waits s x (trials s k before now t)
+unfolding awaits
+at-trial s k before now t x e = record {
+  left = k;
+  before = before;
+  now = now;
+  stands = ap (trials s k before now)
+      (Option·some-injective t x (sym (ap awaits (question-at s k before now t .1)) ∙ e));
+}
+
+waits : (s : Setup) (i : ℕ) (stage : Stage) (x : Float) → awaits (meaning s i stage) ≡ some x
+    → Waits s x (meaning s i stage)
+unfolding meaning awaits
+waits s i First x e = at-trial s _ _ _ _ x e
+waits s i (Later t) x e = at-trial s _ _ _ _ x e
+waits s i Over x e = absurd (Option·none-ne-some x e)
+
+module _ (b : Backtracking) (x : Float) (at : Waits (b .setup) x (meant b)) (f g : Float) (r : Turn)
+    (by : Follows b f g r) where
+  abbrev here : Rest ℕ
+  here = trials (b .setup) (at .left) (at .before) (at .now) x
+
+  tells : told (r .outcome) ≡ shown (respond here f g)
+  tells = by .tells ∙ ap (λ (q : Rest ℕ). shown (respond q f g)) (at .stands)
+
+  open-here : isOver here ≡ false
+  unfolding isOver
+  open-here = ap isOver (question-at (b .setup) (at .left) (at .before) (at .now) x .1)
+
+  -- a state handed back untouched would stand for the same search
+  untouched : r .search ≡ b → onceTold here ≡ onceTold (respond here f g)
+  untouched same =
+      trials-rest (b .setup) (at .left) (at .before) (at .now) x ∙ sym (at .stands) ∙ sym (ap meant same) ∙ by .leaves
+      ∙ ap (λ (q : Rest ℕ). onceTold (respond q f g)) (at .stands)
+
+  shut-out : EmptyShutOut b x f g r
+  shut-out = record {
+    refusing = λ p q n e.
+        Option·none-ne-some n
+        (sym (ap refusalIn tells ∙ no-refusal (b .setup) (at .before) (at .now) x f g (at .left) p q) ∙ e);
+    same-step = λ differs e.
+        differs (asks-next (b .setup) (at .before) (at .now) x f g (at .left) x (sym tells ∙ e));
+    untouched = λ same.
+        moves-on here (trials-end (b .setup) (at .left) (at .before) (at .now) x) open-here f g (untouched same);
+  }
+
+pub empty-shut-out : (b : Backtracking) (x : Float) → awaits (meant b) ≡ some x → (f g : Float) (r : Turn)
+    → Follows b f g r → EmptyShutOut b x f g r
+empty-shut-out b x e f g r by = shut-out b x (waits (b .setup) (b .iterations .0) (b .stage) x e) f g r by
+
+-- ---- and what they do instead: "Backtracking asks alpha, tests, then alpha*rho"
+
+-- after a finite first answer that does not meet the condition, the step asked is alpha * rho
+pub second-ask : (o : Options) (f0 s0 : Float) (t : Turn) → Starts o f0 s0 (Began t) → (f g : Float)
+    → answerFinite (o .condition) f g ≡ true → holdsOf (o .condition) f0 s0 (o .alpha) f g ≡ false
+    → finite (o .alpha ⊗ o .rho) ≡ true → (r : Turn) → Follows (t .search) f g r
+    → told (r .outcome) ≡ asks (o .alpha ⊗ o .rho)
+second-ask o f0 s0 t starts f g p h q r follows =
+    let s = setupOf o f0 s0 in
+    let begun = passed (startRows o f0 s0) (backtracking s) (meant (t .search)) (sym (starts .stands-for)) in
+    follows .tells
+    ∙ ap (λ (c : Rest ℕ). shown (respond c f g)) (sym (begun .1))
+    ∙ asks-shorter s 0 0 (o .alpha) f g (o .limit) (limit-left o (ranges o f0 s0 (begun .0))) p h q
+
+-- with argmin's defaults alpha * rho is not alpha
+pub defaults-shrink : (C : Condition) → let o = defaultsOf C in o .alpha ⊗ o .rho ≡ o .alpha → ⊥
+unfolding mul lt ofBits ofInt
+defaults-shrink C e = false≢true (sym (ap (λ (z : Float). z <ᶠ 1ᶠ) e))
