@@ -1,7 +1,7 @@
 -- What closes the needs of branching code against a definition by tests: `search tests` follows the tests that led to a
 -- return. And what is known of a choice. Assumes nothing.
 use mathlib.Core.Path.{_≡_, refl, sym, _∙_}
-use mathlib.Core.Bool.{Bool, true, false, not, cond, _&&_, false≢true}
+use mathlib.Core.Bool.{Bool, true, false, not, cond, _&&_, _||_, false≢true}
 use borrow.Author.Tests.{not-true, not-false, lt-ltb, le-ltb, le-leb, lt-leb}
 
 pub if-yes : {A : Type 0} (b : Bool) (x y r : A) → b ≡ true → r ≡ x → r ≡ cond b x y
@@ -22,17 +22,30 @@ not-not-by-call t b e h = sym e ∙ not-false t h
 
 pub ruleset tests = (if-yes, if-no, by-call, not-by-call, not-not-by-call, lt-ltb, le-ltb, le-leb, lt-leb)
 
--- ---- a choice, by what both sides share, and by what each has
+-- ---- a choice has what its two sides have, each where the test says so; and two choices by one test agree as their
+-- sides do
+pub by-cases {ℓ} : {A : Type 0} (P : A → Type ℓ) (b : Bool) {x y : A} → (b ≡ true → P x) → (b ≡ false → P y)
+    → P (cond b x y)
+by-cases P true p q = p refl
+by-cases P false p q = q refl
+
+pub by-cases₂ : {A B : Type 0} (P : A → B → Type 0) (b : Bool) {x y : A} {v w : B} → (b ≡ true → P x v)
+    → (b ≡ false → P y w) → P (cond b x y) (cond b v w)
+by-cases₂ P true p q = p refl
+by-cases₂ P false p q = q refl
+
+-- the same of what is computed from the choice, where the test does not matter
 pub either : {X A : Type 0} (h : X → A) (b : Bool) (x y : X) (v : A) → h x ≡ v → h y ≡ v → h (cond b x y) ≡ v
-either h true x y v p q = p
-either h false x y v p q = q
+either h b x y v p q = by-cases (λ z. h z ≡ v) b (λ e. p) (λ e. q)
 
 pub by-test : {X A : Type 0} (h : X → A) (b : Bool) (x y : X) (v w : A) → h x ≡ v → h y ≡ w
     → h (cond b x y) ≡ cond b v w
-by-test h true x y v w p q = p
-by-test h false x y v w p q = q
+by-test h b x y v w p q = by-cases₂ (λ z u. h z ≡ u) b (λ e. p) (λ e. q)
 
 -- ---- the parts of a test of several
+pub both : (a b : Bool) → a ≡ true → b ≡ true → (a && b) ≡ true
+both a b e h = rw (e, h)
+
 pub and-first : (a b : Bool) → (a && b) ≡ true → a ≡ true
 and-first true b e = refl
 and-first false b e = e
@@ -40,3 +53,13 @@ and-first false b e = e
 pub and-second : (a b : Bool) → (a && b) ≡ true → b ≡ true
 and-second true b e = e
 and-second false b e = absurd (false≢true e)
+
+pub not-second : (a b : Bool) → (a && b) ≡ false → a ≡ true → b ≡ false
+not-second a b e h = rw h at e
+
+pub neither-first : (a b : Bool) → (a || b) ≡ false → a ≡ false
+neither-first false b e = refl
+neither-first true b e = e
+
+pub neither-second : (a b : Bool) → (a || b) ≡ false → b ≡ false
+neither-second a b e = rw (neither-first a b e) at e
