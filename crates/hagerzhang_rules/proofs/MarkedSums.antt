@@ -21,7 +21,9 @@ use Rattle.hagerzhang_rules.specs.declared.Setup.{Setup}
 use Rattle.hagerzhang_rules.specs.declared.Further.the-variants.{Nothing, At}
 use Rattle.hagerzhang_rules.specs.declared.Came.the-variants.{To}
 use Rattle.hagerzhang_rules.specs.Parameters.{defaultOptions, setupOf, startRows}
-use Rattle.hagerzhang_rules.specs.Rules.{point, bracket, answerFinite, secantOf, updateOf, narrowedOf, S2, S3, L2, bestOver, bestOf, trial, between, U3, updating, update, further, afterS4, afterS1, iteration}
+use Rattle.hagerzhang_rules.specs.Rules.{point, bracket, answerFinite, secantOf, updateOf, narrowedOf, S2, S3, L2}
+use Rattle.hagerzhang_rules.specs.Rules.{bestOver, bestOf, trial, between, U3, updating, update, further, afterS4}
+use Rattle.hagerzhang_rules.specs.Rules.{afterS1, iteration}
 
 -- "epsilon = 0, L = 1, theta = 0.5, a = (0,1,-2), b = (4,9,6) unless said." The start has cost 1 and slope -2; B is the
 -- budget.

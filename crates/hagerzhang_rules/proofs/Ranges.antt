@@ -14,7 +14,9 @@ use Rattle.floats.proofs.Branches.{and-first, and-second}
 use Rattle.refusals.proofs.Refusals.{Passed, and, all}
 use Rattle.hagerzhang_rules.specs.declared.Params.{Params}
 use Rattle.hagerzhang_rules.specs.declared.Options.{Options}
-use Rattle.hagerzhang_rules.specs.Parameters.{paramsFinite, suppliedFinite, deltaSigmaInRange, factorsInRange, boundsInRange, countsInRange, inRanges, epsilonK, levelOf, startRows}
+use Rattle.hagerzhang_rules.specs.Parameters.{paramsFinite, suppliedFinite, deltaSigmaInRange, factorsInRange}
+use Rattle.hagerzhang_rules.specs.Parameters.{boundsInRange, countsInRange, inRanges, epsilonK, levelOf}
+use Rattle.hagerzhang_rules.specs.Parameters.{startRows}
 
 -- ---- the rows
 supplied : (o : Options) (f0 s0 : Float) → Passed (startRows o f0 s0) → suppliedFinite o f0 s0 ≡ true

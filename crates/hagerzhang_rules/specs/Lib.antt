@@ -1,3 +1,4 @@
 pub mod Parameters
 pub mod Rules
+pub mod Brackets
 pub mod Iterations
