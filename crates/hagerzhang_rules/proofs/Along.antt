@@ -2,10 +2,10 @@
 -- each report and each ending holds there; each answer leaves the report as it was or finishes the iteration under way
 -- (`answer-moves`); the iterations that are counted are those that were finished (`finished-counted`); and demand 3's
 -- premise stays (`premise-along`). Assumes nothing.
-use mathlib.Core.Path.{_≡_, refl, subst}
+use mathlib.Core.Path.{_≡_, subst}
 use mathlib.Core.Bool.{true, cond}
 use mathlib.Core.List.{List, [], _∷_}
-use Prim.Native.Nat.{ℕ, suc, _+_, _*_, _≤_}
+use Prim.Native.Nat.{_+_, _*_, _≤_}
 use native.Mathlib.Omega.{arith}
 use lib.Dec.{ltb}
 use lib.ListN.{length}

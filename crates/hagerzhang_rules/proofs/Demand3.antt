@@ -4,9 +4,9 @@
 -- counts; why each step is asked and each search ended (`asks`, `ends`); that all reported numbers are finite. About
 -- 01's rules; the machine reports what they report. Assumes nothing.
 use mathlib.Core.Path.{_≡_, refl, sym, _∙_, subst}
-use mathlib.Core.Bool.{Bool, true, false, true≢false}
+use mathlib.Core.Bool.{true}
 use mathlib.Core.List.{List, [], _∷_}
-use Prim.Native.Nat.{ℕ, _+_, _*_, _≤_}
+use Prim.Native.Nat.{_+_, _*_, _≤_}
 use native.Mathlib.Omega.{arith}
 use lib.ListN.{length}
 use lib.Ieee.{Float}
@@ -16,7 +16,6 @@ use Rattle.runs.specs.Outcomes.{Ending, refusal, Why, alreadyOver, unreachable,
 use Rattle.runs.specs.Asking.{Rest, end, Ended, endWith, Reply, respond, shown, reported, after}
 use Rattle.refusals.proofs.Refusals.{Passed}
 use Rattle.hagerzhang_rules.specs.declared.Point.{Point}
-use Rattle.hagerzhang_rules.specs.declared.Bracket.{Bracket}
 use Rattle.hagerzhang_rules.specs.declared.Options.{Options}
 use Rattle.hagerzhang_rules.specs.declared.Setup.{Setup}
 use Rattle.hagerzhang_rules.specs.Parameters.{setupOf, startRows}

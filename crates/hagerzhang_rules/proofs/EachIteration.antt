@@ -1,6 +1,6 @@
 -- Demand 3 and the refusals over the whole search, said of each finished iteration, each report, each step that is asked
 -- and each ending (`search-stands`): by one pass through the flow of the rules. Assumes nothing.
-use mathlib.Core.Path.{_≡_, refl, ap, subst}
+use mathlib.Core.Path.{_≡_, refl, ap}
 use mathlib.Core.Bool.{Bool, true, cond, _&&_}
 use mathlib.Core.List.{List, [], _∷_}
 use mathlib.Core.Logic.{inl, inr}
@@ -11,7 +11,7 @@ use lib.ListN.{length}
 use lib.Ieee.{Float}
 use lib.Ieee.Scale.{finite}
 use Rattle.floats.specs.Arithmetic.{_<ᶠ_}
-use Rattle.runs.specs.Outcomes.{Ending, Why, refusal, answerNotFinite, stepNotFinite, stepNotBetween}
+use Rattle.runs.specs.Outcomes.{Ending, Why, refusal, answerNotFinite, stepNotFinite}
 use Rattle.runs.specs.Asking.{end, Rest, endWith, keeping, reported}
 use Rattle.refusals.proofs.Refusals.{Passed}
 use Rattle.floats.proofs.Branches.{by-cases, and-first, and-second}
