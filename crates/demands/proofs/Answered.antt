@@ -28,15 +28,15 @@ use Rattle.demands.specs.Demand1.{Answered}
 -- ---- a finite answer: what it says of the stage that it leaves
 of-step : {stage : Stage} {o : Outcome} → Said stage o → OfTheStep (refusalIn (told o))
 of-step asks-on = not-refused
-of-step (ended a b) = a
+of-step (ended e a) = rw e a
 
 then-over : {stage : Stage} {o : Outcome} → Said stage o → (e : Ending ℕ) → told o ≡ ends e → isOver stage ≡ true
 then-over (asks-on {x = x}) e q = absurd (asks-not-ends x e (sym q))
-then-over (ended a b) e q = refl
+then-over (ended e' a) e q = refl
 
 then-open : {stage : Stage} {o : Outcome} → Said stage o → (x : Float) → told o ≡ asks x → isOver stage ≡ false
 then-open asks-on x e = refl
-then-open (ended a b) x e = absurd (b x e)
+then-open (ended {e = e'} told a) x e = absurd (asks-not-ends x e' (sym told ∙ e))
 
 module _ (s : Search) (f g : Float) where
   taken : (waiting : Waiting) → s .stage ≡ Open waiting → (b : Bool) → answerFinite f g ≡ b

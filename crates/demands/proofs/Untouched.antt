@@ -6,7 +6,7 @@ use lib.Ieee.{Float}
 use Rattle.runs.specs.Asking.{Reply, reached}
 use Rattle.hagerzhang.specs.declared.state.Search.{Search}
 use Rattle.hagerzhang.specs.Meaning.{report}
-use Rattle.hagerzhang_rules.proofs.Demand3.{Holds}
+use Rattle.hagerzhang_rules.proofs.Along.{Holds}
 
 pub untouched-keeps : (L : Float) (s : Search) (ys : List Reply) → Holds L (report s)
     → Holds L (report (reached (λ (t : Search) (f g : Float). t) s ys))

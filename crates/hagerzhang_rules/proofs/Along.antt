@@ -1,7 +1,7 @@
 -- Along any list of answers: wherever a search comes to, it stands (`stands-along`), so that what is said of each step,
 -- each report and each ending holds there; each answer leaves the report as it was or finishes the iteration under way
 -- (`answer-moves`); the iterations that are counted are those that were finished (`finished-counted`); and demand 3's
--- premise stays (`premise-along`). Assumes nothing.
+-- three facts stay (`holds-along`). Assumes nothing.
 use mathlib.Core.Path.{_≡_, subst}
 use mathlib.Core.Bool.{true, cond}
 use mathlib.Core.List.{List, [], _∷_}
@@ -17,7 +17,7 @@ use Rattle.runs.proofs.Apart.{asks-not-ends, same-step}
 use Rattle.hagerzhang_rules.specs.declared.Point.{Point}
 use Rattle.hagerzhang_rules.specs.declared.Setup.{Setup}
 use Rattle.hagerzhang_rules.specs.Rules.{Summary, Report, noneYet, last, iterationsIn}
-use Rattle.hagerzhang_rules.specs.Brackets.{premise}
+use Rattle.hagerzhang_rules.specs.Brackets.{premise, Ordered}
 use Rattle.hagerzhang_rules.specs.Iterations.{Whole, Brings, as-before, first, finished-one, EndedBecause, already}
 use Rattle.hagerzhang_rules.proofs.UnderWay.{noted, kept, under-way, finished-by}
 use Rattle.hagerzhang_rules.proofs.Iterations.{Fine, Asks, in-start, in-iteration, Stands, awaiting, ended}
@@ -70,9 +70,10 @@ counts-one (first i) = rw i
 counts-one (finished-one {p = p} {q = q} i f) =
     rw (lt-ltb (p .iterations) (q .iterations) (omega arith)) (omega arith)
 
-abbrev pub Meets : Float → Report → Type 0
-Meets L noneYet = ⊥
-Meets L (last p) = premise L (p .bracket .a) (p .bracket .b) ≡ true
+-- the bracket that is reported meets demand 3's three, and its ends are in order
+abbrev pub Holds : Float → Report → Type 0
+Holds L noneYet = ⊥
+Holds L (last p) = (premise L (p .bracket .a) (p .bracket .b) ≡ true) × Ordered (p .bracket)
 
 -- ---- any answers
 module _ {s : Setup} where
@@ -96,15 +97,15 @@ module _ {s : Setup} where
       let more = finished-counted ys (stands-after y a) in
       omega arith
 
-  -- ---- demand 3's premise: where the bracket that is reported meets it, every later one does
-  premise-moved : {asked : List Point} {k l : Report} → Brings (Whole s) asked k l → Meets (s .level) k
-      → Meets (s .level) l
-  premise-moved as-before h = h
-  premise-moved (first i) h = absurd h
-  premise-moved (finished-one i f) h = f .stays h
+  -- ---- where that is so, it is so of every later one
+  holds-moved : {asked : List Point} {k l : Report} → Brings (Whole s) asked k l → Holds (s .level) k
+      → Holds (s .level) l
+  holds-moved as-before h = h
+  holds-moved (first i) h = absurd h
+  holds-moved (finished-one i f) h = (f .stays (h .0), f .ordered)
 
-  pub premise-along : (ys : List Reply) {asked : List Point} {r : Rest Report} → Stands s asked r
-      → Meets (s .level) (reported r) → Meets (s .level) (reported (after r ys))
+  pub holds-along : (ys : List Reply) {asked : List Point} {r : Rest Report} → Stands s asked r
+      → Holds (s .level) (reported r) → Holds (s .level) (reported (after r ys))
   unfolding after
-  premise-along [] a h = h
-  premise-along (y ∷ ys) a h = premise-along ys (stands-after y a) (premise-moved (answer-moves y a) h)
+  holds-along [] a h = h
+  holds-along (y ∷ ys) a h = holds-along ys (stands-after y a) (holds-moved (answer-moves y a) h)

@@ -24,10 +24,11 @@ use Rattle.hagerzhang_rules.specs.Rules.{rounds, askStart, askHigh, hage
 use Rattle.hagerzhang_rules.specs.Brackets.{premise, Ordered}
 use Rattle.hagerzhang_rules.specs.Iterations.{Whole, Brings, AskedBecause, as-trial, inside, EndedBecause, reportFinite}
 use Rattle.hagerzhang_rules.proofs.Apart.{none-not-last}
+use Rattle.hagerzhang_rules.proofs.Ranges.{low-below-high}
 use Rattle.hagerzhang_rules.proofs.UnderWay.{noted, under-way, finished-by}
 use Rattle.hagerzhang_rules.proofs.Iterations.{In-order, Asks, in-start, in-iteration, Stands}
 use Rattle.hagerzhang_rules.proofs.Along.{report-fine, few-asked, asks-at, ended-at, answer-moves, stands-along}
-use Rattle.hagerzhang_rules.proofs.Along.{each-finished, finished-counted, Meets, premise-along}
+use Rattle.hagerzhang_rules.proofs.Along.{each-finished, finished-counted, Holds, holds-along}
 use Rattle.hagerzhang_rules.proofs.EachIteration.{rounds-report, search-stands}
 
 finite-step : {s : Setup} {asked : List Point} {x : Float} {k : Report} → Asks s asked x k → finite x ≡ true
@@ -139,9 +140,10 @@ module _ (o : Options) (f0 s0 : Float) (ok : Passed (startRows o f0 s0)) where
     bracket-stays three ys p =
         begun
         (λ r. (asked : List Point) → Stands s asked r → reported (after r ys) ≡ last p
-        → Meets (s .level) (last p))
+        → premise (s .level) (p .bracket .a) (p .bracket .b) ≡ true)
         (λ asked a e.
-        let first : Meets (s .level) (reported on) = rw (rounds-report s (o .limit) _ _ 0) three in
-        subst (Meets (s .level)) e (premise-along ys a first))
+        let first : Holds (s .level) (reported on) =
+        rw (rounds-report s (o .limit) _ _ 0) (three, low-below-high o f0 s0 ok) in
+        subst (Holds (s .level)) e (holds-along ys a first) .0)
         (λ why asked a e. absurd (none-not-last p (sym (over-reports _ ys) ∙ e)))
         (under-way [] (hagerZhang s) (ya ∷ yb ∷ yc ∷ [])) (stands (ya ∷ yb ∷ yc ∷ []))

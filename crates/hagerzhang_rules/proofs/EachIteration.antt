@@ -263,6 +263,7 @@ module _ (s : Setup) where
       (record {
         whole = at .there;
         stays = sound-stays m;
+        ordered = m .in-order;
         narrows = sound-within m;
         low-from = m .low .from;
         high-from = m .high .from;

@@ -20,7 +20,7 @@ use Rattle.hagerzhang_rules.specs.declared.Setup.{Setup}
 use Rattle.hagerzhang_rules.specs.declared.Came.{Came}
 use Rattle.hagerzhang_rules.specs.declared.Came.the-variants.{To, On}
 use Rattle.hagerzhang_rules.specs.declared.Judged.the-variants.{Holds, Fails}
-use Rattle.hagerzhang_rules.specs.Brackets.{premise, Within}
+use Rattle.hagerzhang_rules.specs.Brackets.{premise, Ordered, Within}
 use Rattle.hagerzhang_rules.specs.Rules.{point, answerFinite, updateOf, middleOf, narrowedOf, judgeOf, iteration}
 use Rattle.hagerzhang_rules.specs.Rules.{Summary, Report, noneYet, last}
 
@@ -62,7 +62,8 @@ pub record Whole (s : Setup) (p : Summary) (asked : List Point) (q : Summary) : 
   -- "the bracket meets the same three": where the former one does
   pub stays : premise (s .level) (p .bracket .a) (p .bracket .b) ≡ true
       → premise (s .level) (q .bracket .a) (q .bracket .b) ≡ true
-  -- "and it lies within the former bracket": whatever the slopes are
+  -- "low step < high step, and it lies within the former bracket": whatever the slopes are
+  pub ordered : Ordered (q .bracket)
   pub narrows : Within (p .bracket) (q .bracket)
   pub low-from : Came-from (p .bracket) asked (q .bracket .a)
   pub high-from : Came-from (p .bracket) asked (q .bracket .b)
