@@ -5,9 +5,9 @@ use mathlib.Core.Bool.{Bool, true, false, cond, true≢false, false≢true}
 use mathlib.Core.Option.{Option·none-ne-some}
 use Prim.Native.Nat.{ℕ}
 use lib.Ieee.{Float}
-use Rattle.runs.specs.Outcomes.{Ending, asks, ends, told}
+use Rattle.floats.proofs.Branches.{by-cases}
 use Rattle.refusals.specs.Refusals.{given}
-use Rattle.runs.specs.Outcomes.{refusalIn}
+use Rattle.runs.specs.Outcomes.{Ending, asks, ends, told, refusalIn}
 use Rattle.runs.specs.Counters.{oneMore, evaluations}
 use Rattle.runs.proofs.Apart.{asks-not-ends}
 use Rattle.runs.specs.declared.Outcome.{Outcome}
@@ -39,12 +39,12 @@ then-open asks-on x e = refl
 then-open (ended {e = e'} told a) x e = absurd (asks-not-ends x e' (sym told ∙ e))
 
 module _ (s : Search) (f g : Float) where
-  taken : (waiting : Waiting) → s .stage ≡ Open waiting → (b : Bool) → answerFinite f g ≡ b
-      → Answered s f g
-      (cond b (turnedOf (s .setup) (evaluations (oneMore (s .evaluations .0))) (reactOf (s .setup) waiting f g))
-      (turnedOf (s .setup) (s .evaluations) (endedOf (keepsOf waiting) (Refused SuppliedNotFinite))))
-  unfolding given heldAt
-  taken waiting w true e =
+  taken : (waiting : Waiting) → s .stage ≡ Open waiting
+      → Answered s f g (takenOf (s .setup) (s .evaluations) waiting f g)
+  unfolding takenOf given heldAt
+  taken waiting w =
+      by-cases (Answered s f g) (answerFinite f g)
+      (λ e.
       let m = react-said (s .setup) waiting f g in
       record {
         early = λ n q. absurd (Option·none-ne-some n (sym (rw (w, e)) ∙ q));
@@ -54,20 +54,20 @@ module _ (s : Search) (f g : Float) where
         goes-on = then-open m;
         keeps = λ q a. absurd (true≢false (sym e ∙ a));
         counts = rw (w, e);
-      }
-  taken waiting w false e = record {
-    early = λ n q. sym (rw (w, e)) ∙ q;
-    otherwise = λ q. absurd (Option·none-ne-some 2 (sym q ∙ rw (w, e)));
-    unchanged = λ q. absurd (false≢true (sym (ap isOver w) ∙ q));
-    over = λ e q. refl;
-    goes-on = λ x q. absurd (asks-not-ends x _ q);
-    keeps = λ q a. rw w;
-    counts = rw (w, e);
-  }
+      })
+      (λ e. record {
+        early = λ n q. sym (rw (w, e)) ∙ q;
+        otherwise = λ q. absurd (Option·none-ne-some 2 (sym q ∙ rw (w, e)));
+        unchanged = λ q. absurd (false≢true (sym (ap isOver w) ∙ q));
+        over = λ e q. refl;
+        goes-on = λ x q. absurd (asks-not-ends x _ q);
+        keeps = λ q a. rw w;
+        counts = rw (w, e);
+      })
 
   by-stage : (stage : Stage) → s .stage ≡ stage → Answered s f g (answerBy s f g stage)
-  unfolding answerBy takenOf given
-  by-stage (Open waiting) w = taken waiting w (answerFinite f g) refl
+  unfolding answerBy given
+  by-stage (Open waiting) w = taken waiting w
   by-stage (Over kept) w = record {
     early = λ n q. sym (rw w) ∙ q;
     otherwise = λ q. absurd (Option·none-ne-some 8 (sym q ∙ rw w));

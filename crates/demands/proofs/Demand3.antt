@@ -17,7 +17,8 @@ use Rattle.hagerzhang_rules.specs.declared.Options.{Options}
 use Rattle.hagerzhang_rules.specs.declared.Setup.{Setup}
 use Rattle.hagerzhang_rules.specs.Parameters.{setupOf, startRows}
 use Rattle.hagerzhang_rules.specs.Rules.{answerFinite, Report, noneYet, last, iterationsIn, hagerZhang}
-use Rattle.hagerzhang_rules.specs.Iterations.{EndedBecause, by-verdict, by-limit, not-finite, trial-not-finite, U3-not-finite, budget-spent, not-between, already}
+use Rattle.hagerzhang_rules.specs.Iterations.{EndedBecause, by-verdict, by-limit, not-finite, trial-not-finite}
+use Rattle.hagerzhang_rules.specs.Iterations.{U3-not-finite, budget-spent, not-between, already}
 use Rattle.hagerzhang_rules.proofs.UnderWay.{under-way}
 use Rattle.hagerzhang_rules.proofs.Ranges.{level-finite, min-finite, max-finite, start-finite, most-answers}
 use Rattle.hagerzhang_rules.proofs.Bounds.{search-within}
@@ -30,7 +31,8 @@ use Rattle.demands.specs.Runs.{reachedBy, and-then, finiteBy}
 use Rattle.demands.specs.Demand1.{Reason}
 use Rattle.demands.specs.Demand3.{AtLimit, Bounded, Demand3}
 use Rattle.demands.proofs.Refused.{fresh-refused}
-use Rattle.demands.proofs.Along.{after-one-more, report-at, report-next, over-at, told-at, asked-by, asked-at, finished-at, tallied-is, evaluations-are}
+use Rattle.demands.proofs.Along.{after-one-more, report-at, report-next, over-at, told-at, asked-by, asked-at}
+use Rattle.demands.proofs.Along.{finished-at, tallied-is, evaluations-are}
 
 -- ---- an ending by the limit is at the N-th iteration
 told-limit : (e : Ending Why) (x : Float) → numbered e ≡ limit x → e ≡ limit x

@@ -26,7 +26,9 @@ use Rattle.hagerzhang_rules.specs.declared.Options.{Options}
 use Rattle.hagerzhang_rules.specs.declared.Setup.{Setup}
 use Rattle.hagerzhang_rules.specs.Parameters.{setupOf, startRows}
 use Rattle.hagerzhang_rules.specs.Rules.{middleOf, Summary, Report, last, hagerZhang}
-use Rattle.hagerzhang_rules.specs.Iterations.{standing, had, InU3, AskedBecause, as-trial, inside, EndedBecause, by-verdict, by-limit, not-finite, trial-not-finite, U3-not-finite, budget-spent, not-between, already}
+use Rattle.hagerzhang_rules.specs.Iterations.{standing, had, InU3, AskedBecause, as-trial, inside, EndedBecause}
+use Rattle.hagerzhang_rules.specs.Iterations.{by-verdict, by-limit, not-finite, trial-not-finite, U3-not-finite}
+use Rattle.hagerzhang_rules.specs.Iterations.{budget-spent, not-between, already}
 use Rattle.hagerzhang_rules.proofs.Apart.{to-not-on}
 use Rattle.hagerzhang_rules.proofs.UnderWay.{under-way}
 use Rattle.hagerzhang_rules.proofs.Demand3 as rules
@@ -83,7 +85,8 @@ tells-ended s p asked h k e (not-finite u) in-U3 o = elim o [ ]
 tells-ended s p asked h k e (trial-not-finite {u = u} t a x) in-U3 o = absurd (to-not-on u h k (sym t ∙ in-U3))
 tells-ended s p asked h k e (U3-not-finite i f) in-U3 o =
     here s p asked h k in-U3 (i .stands) (tells-5 s p asked i f)
-tells-ended s p asked h k e (budget-spent t all) in-U3 o = rw (eq-eqb (had s (p .bracket) asked) (s .options .budget) all)
+tells-ended s p asked h k e (budget-spent t all) in-U3 o =
+    rw (eq-eqb (had s (p .bracket) asked) (s .options .budget) all)
 tells-ended s p asked h k e (not-between i f outside) in-U3 o =
     here s p asked h k in-U3 (i .stands) (tells-7 s p asked i f outside)
 tells-ended s p asked h k e already in-U3 o = elim o [ ]
@@ -135,8 +138,9 @@ module _ (o : Options) (f0 s0 : Float) (ok : Passed (startRows o f0 s0)) where
     in-U3 = λ ys y runs fine p h k e stands.
         let c = reachedBy (freshOf s .search) ys in
         let step = answered c (y .0) (y .1) (answerOf c (y .0) (y .1)) refl .otherwise (rw (runs, fine)) in
-        rw (asked-by o f0 s0 ok (and-then ys y)) (told-at o f0 s0 ok ys y ∙
-        goes-on-in ys y p h k (respond (after (hagerZhang s) ys) (y .0) (y .1)) refl (sym (report-next o f0 s0 ok ys y) ∙ e)
+        rw (asked-by o f0 s0 ok (and-then ys y)) (told-at o f0 s0 ok ys y
+        ∙ goes-on-in ys y p h k (respond (after (hagerZhang s) ys) (y .0) (y .1)) refl
+        (sym (report-next o f0 s0 ok ys y) ∙ e)
         (rw (asked-by o f0 s0 ok (and-then ys y)) at stands)
         (subst (λ (q : Told). OfTheStep (refusalIn q)) (told-at o f0 s0 ok ys y) step));
     asks-finite = λ ys y x e.

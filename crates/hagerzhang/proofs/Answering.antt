@@ -33,7 +33,8 @@ use Rattle.hagerzhang.specs.declared.state.Turn.{Turn}
 use Rattle.hagerzhang.specs.Moves.{attemptOf, probeOf, testOf, madeBy, madeOf}
 use Rattle.hagerzhang.specs.Iteration.{wentOf}
 use Rattle.hagerzhang.specs.Machine.{reactOf, heldAt, heldOf, awaitedAt, awaitedOf, takenOf, answerBy}
-use Rattle.hagerzhang.specs.Meaning.{keptReport, dueTold, OfTheStep, not-refused, six, five, seven, meaning, meant}
+use Rattle.hagerzhang.specs.Meaning.{keptReport, dueTold, OfTheStep, not-refused, six, five, seven, meaning}
+use Rattle.hagerzhang.specs.Meaning.{meant}
 
 pub setup-kept : (b : Search) (f g : Float) (stage : Stage) → answerBy b f g stage .search .setup ≡ b .setup
 unfolding answerBy takenOf

@@ -49,12 +49,18 @@ use Rattle.hagerzhang.specs.declared.state.Turn.{Turn}
 use Rattle.hagerzhang.specs.declared.state.Started.{Started}
 use Rattle.hagerzhang.specs.declared.state.Started.the-variants.{Began, NoSearch}
 use Rattle.hagerzhang_rules.specs.Parameters.{setupOf, startRows}
-use Rattle.hagerzhang_rules.specs.Rules.{point, answerFinite, middleOf, secantOf, S4, L2, bestOf, judgeOf, trial, between, U3, updating, update, further, afterS4, afterS1, iteration, Report, reportOf, decided, verdict, rounds, askStart, askHigh, hagerZhang}
+use Rattle.hagerzhang_rules.specs.Rules.{point, answerFinite, middleOf, secantOf, S4, L2, bestOf, judgeOf, trial}
+use Rattle.hagerzhang_rules.specs.Rules.{between, U3, updating, update, further, afterS4, afterS1, iteration, Report}
+use Rattle.hagerzhang_rules.specs.Rules.{reportOf, decided, verdict, rounds, askStart, askHigh, hagerZhang}
 use Rattle.hagerzhang_decisions.proofs.Decides.{decides}
-use Rattle.hagerzhang.specs.Moves.{triesOf, finishedOf, attemptOf, probeOf, testOf, madeBy, outlookBy, madeOf, settledOf}
-use Rattle.hagerzhang.specs.Iteration.{comesOf, leftOf, triedBy, afterS4Of, afterS1Of, followBy, onwardOf, wentOf, runningOf}
-use Rattle.hagerzhang.specs.Machine.{reactOf, keepsOf, stepAsked, stepDue, takenOf, answerBy, answerOf, freshOf, startOf, StartSaid, AnswerSaid}
-use Rattle.hagerzhang.specs.Meaning.{lastOf, keptReport, closed, afterTrial, onAsked, onAnswer, meaning, meant, begun, Starts, Follows}
+use Rattle.hagerzhang.specs.Moves.{triesOf, finishedOf, attemptOf, probeOf, testOf, madeBy, outlookBy, madeOf}
+use Rattle.hagerzhang.specs.Moves.{settledOf}
+use Rattle.hagerzhang.specs.Iteration.{comesOf, leftOf, triedBy, afterS4Of, afterS1Of, followBy, onwardOf, wentOf}
+use Rattle.hagerzhang.specs.Iteration.{runningOf}
+use Rattle.hagerzhang.specs.Machine.{reactOf, keepsOf, stepAsked, stepDue, takenOf, answerBy, answerOf, freshOf}
+use Rattle.hagerzhang.specs.Machine.{startOf, StartSaid, AnswerSaid}
+use Rattle.hagerzhang.specs.Meaning.{lastOf, keptReport, closed, afterTrial, onAsked, onAnswer, meaning, meant}
+use Rattle.hagerzhang.specs.Meaning.{begun, Starts, Follows}
 
 denote : Setup → Next → Seen Report
 denote s n = (meaning s (n .stage), told (n .outcome))

@@ -18,7 +18,8 @@ use Rattle.hagerzhang_rules.specs.declared.Point.{Point}
 use Rattle.hagerzhang_rules.specs.declared.Setup.{Setup}
 use Rattle.hagerzhang_rules.specs.Rules.{Summary, Report, noneYet, last, iterationsIn}
 use Rattle.hagerzhang_rules.specs.Brackets.{premise, Ordered}
-use Rattle.hagerzhang_rules.specs.Iterations.{Whole, Brings, as-before, first, finished-one, EndedBecause, already}
+use Rattle.hagerzhang_rules.specs.Iterations.{Whole, Brings, as-before, first, finished-one, EndedBecause}
+use Rattle.hagerzhang_rules.specs.Iterations.{already}
 use Rattle.hagerzhang_rules.proofs.UnderWay.{noted, kept, under-way, finished-by}
 use Rattle.hagerzhang_rules.proofs.Iterations.{Fine, Asks, in-start, in-iteration, Stands, awaiting, ended}
 use Rattle.hagerzhang_rules.proofs.Iterations.{no-further}

@@ -19,10 +19,12 @@ use Rattle.hagerzhang_rules.specs.declared.Point.{Point}
 use Rattle.hagerzhang_rules.specs.declared.Options.{Options}
 use Rattle.hagerzhang_rules.specs.declared.Setup.{Setup}
 use Rattle.hagerzhang_rules.specs.Parameters.{setupOf, startRows}
-use Rattle.hagerzhang_rules.specs.Rules.{point, bracket, answerFinite, Summary, Report, noneYet, last, iterationsIn}
+use Rattle.hagerzhang_rules.specs.Rules.{point, bracket, answerFinite, Summary, Report, noneYet, last}
+use Rattle.hagerzhang_rules.specs.Rules.{iterationsIn}
 use Rattle.hagerzhang_rules.specs.Rules.{rounds, askStart, askHigh, hagerZhang}
 use Rattle.hagerzhang_rules.specs.Brackets.{premise, Ordered}
-use Rattle.hagerzhang_rules.specs.Iterations.{Whole, Brings, AskedBecause, as-trial, inside, EndedBecause, reportFinite}
+use Rattle.hagerzhang_rules.specs.Iterations.{Whole, Brings, AskedBecause, as-trial, inside, EndedBecause}
+use Rattle.hagerzhang_rules.specs.Iterations.{reportFinite}
 use Rattle.hagerzhang_rules.proofs.Apart.{none-not-last}
 use Rattle.hagerzhang_rules.proofs.Ranges.{low-below-high}
 use Rattle.hagerzhang_rules.proofs.UnderWay.{noted, under-way, finished-by}
@@ -36,7 +38,8 @@ finite-step (in-start room fx) = fx
 finite-step (in-iteration room below (as-trial stands at fx)) = fx
 finite-step (in-iteration room below (inside at fx strictly)) = fx
 
-because : {s : Setup} {asked : List Point} {x : Float} {p : Summary} → Asks s asked x (last p) → AskedBecause s p asked x
+because : {s : Setup} {asked : List Point} {x : Float} {p : Summary} → Asks s asked x (last p)
+    → AskedBecause s p asked x
 because (in-iteration room below why) = why
 
 impossible : {s : Setup} {k : Report} {asked : List Point} → EndedBecause s k asked (refusal unreachable) → ⊥

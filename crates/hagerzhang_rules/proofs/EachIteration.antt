@@ -1,5 +1,5 @@
--- Demand 3 and the refusals over the whole search, said of each finished iteration, each report, each step that is asked
--- and each ending (`search-stands`): by one pass through the flow of the rules. Assumes nothing.
+-- Demand 3 and the refusals over the whole search, said of each finished iteration, each report, each step that is
+-- asked and each ending (`search-stands`): by one pass through the flow of the rules. Assumes nothing.
 use mathlib.Core.Path.{_≡_, refl, ap}
 use mathlib.Core.Bool.{Bool, true, cond, _&&_}
 use mathlib.Core.List.{List, [], _∷_}

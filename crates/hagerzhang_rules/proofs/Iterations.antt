@@ -1,8 +1,8 @@
 -- What a search does, said of each step: `Stands s asked r` says that a search that has asked these points in the start
--- or the iteration under way, newest first, stands at r, and that wherever it goes from there each finished iteration is
--- 01's and leaves what demand 3 says, takes at most 3+3B answers, and is one of N; every report has finite numbers and
--- its bracket in order; every step is asked and every ending comes for its reason; and an answer that is not finite is
--- refused (2) and the last. Once for the bracket, the origin of its ends, the bounds, the counts and the refusals.
+-- or the iteration under way, newest first, stands at r, and that wherever it goes from there each finished iteration
+-- is 01's and leaves what demand 3 says, takes at most 3+3B answers, and is one of N; every report has finite numbers
+-- and its bracket in order; every step is asked and every ending comes for its reason; and an answer that is not finite
+-- is refused (2) and the last. Once for the bracket, the origin of its ends, the bounds, the counts and the refusals.
 -- Assumes nothing.
 use mathlib.Core.Path.{_≡_, refl, subst}
 use mathlib.Core.Bool.{true, false}

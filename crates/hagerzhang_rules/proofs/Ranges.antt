@@ -31,7 +31,8 @@ rows o f0 s0 (and two (and three (and four all))) = (
 last-three : (before x y z : Bool) → (before && x && y && z) ≡ true → (x ≡ true) × (y ≡ true) × (z ≡ true)
 last-three before x y z e =
     let two = and-first (before && x && y) z e in
-    (and-second before x (and-first (before && x) y two), and-second (before && x) y two, and-second (before && x && y) z e)
+    let one = and-first (before && x) y two in
+    (and-second before x one, and-second (before && x) y two, and-second (before && x && y) z e)
 
 module _ (o : Options) (f0 s0 : Float) (ok : Passed (startRows o f0 s0)) where
   abbrev p : Params
@@ -43,6 +44,7 @@ module _ (o : Options) (f0 s0 : Float) (ok : Passed (startRows o f0 s0)) where
   -- the bounds and the start step are the last of nine
   steps-finite : (finite (p .min) ≡ true) × (finite (p .max) ≡ true) × (finite (p .start) ≡ true)
   steps-finite =
+      let supplied = rows o f0 s0 ok .0 in
       last-three
       (finite (p .delta)
       && finite (p .sigma)
@@ -51,7 +53,7 @@ module _ (o : Options) (f0 s0 : Float) (ok : Passed (startRows o f0 s0)) where
       && finite (p .gamma)
       && finite (p .eta))
       (finite (p .min)) (finite (p .max)) (finite (p .start))
-      (and-first (paramsFinite p) (finite f0) (and-first (paramsFinite p && finite f0) (finite s0) (rows o f0 s0 ok .0)))
+      (and-first (paramsFinite p) (finite f0) (and-first (paramsFinite p && finite f0) (finite s0) supplied))
 
   pub min-finite : finite (p .min) ≡ true
   min-finite = steps-finite .0

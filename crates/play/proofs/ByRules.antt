@@ -176,7 +176,8 @@ module _ (s : Setup) (fits : Fits s) (c : Curve) where
         matches = subst (λ (p : Played). Matches p []) (sym (stops-at (t .outcome) is-told)) at-over;
       }
 
-  turn : (e m : ℕ) (t : Turn) (r : Rest Report) → EndsWithin answerFinite m r → Stands e m t r → Told-on t (telling c e r)
+  turn : (e m : ℕ) (t : Turn) (r : Rest Report) → EndsWithin answerFinite m r → Stands e m t r
+      → Told-on t (telling c e r)
   turn e m t (end o) w at = end-turn e m t o at
   turn e (suc m) t (ask k x then) (at-ask only more) at = asks-turn e m t k x then at more
 

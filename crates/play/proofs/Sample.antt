@@ -13,7 +13,8 @@ use Rattle.runs.specs.Asking.{Rest, keeping, question}
 use Rattle.refusals.proofs.Refusals.{Passed, and, all, value-given}
 use Rattle.hagerzhang_rules.specs.declared.Point.{Point}
 use Rattle.hagerzhang_rules.specs.Parameters.{defaultOptions}
-use Rattle.hagerzhang_rules.specs.Rules.{point, bracket, answerFinite, Report, noneYet, iterationsIn, bestOver, judgeOf, decided, verdict, rounds, askStart, askHigh, hagerZhang}
+use Rattle.hagerzhang_rules.specs.Rules.{point, bracket, answerFinite, Report, noneYet, iterationsIn, bestOver, judgeOf}
+use Rattle.hagerzhang_rules.specs.Rules.{decided, verdict, rounds, askStart, askHigh, hagerZhang}
 use Rattle.curves.specs.declared.Curve.{Curve}
 use Rattle.curves.specs.Curves.{table, valueOf, slopeOf}
 use Rattle.text.specs.Text.{bytes}
