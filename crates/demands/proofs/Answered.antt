@@ -1,26 +1,23 @@
 -- 01's table of refusals for Hager-Zhang, of any state: an answer is refused by 8 and by 2 exactly when their rows say
 -- so, and else by 6, 5 or 7 at most; and what that leaves (`answered`). Assumes nothing.
 use mathlib.Core.Path.{_≡_, refl, sym, ap, _∙_}
-use mathlib.Core.Bool.{Bool, true, false, cond, true≢false, false≢true}
+use mathlib.Core.Bool.{true, false, true≢false, false≢true}
 use mathlib.Core.Option.{Option·none-ne-some}
 use Prim.Native.Nat.{ℕ}
 use lib.Ieee.{Float}
 use Rattle.floats.proofs.Branches.{by-cases}
 use Rattle.refusals.specs.Refusals.{given}
 use Rattle.runs.specs.Outcomes.{Ending, asks, ends, told, refusalIn}
-use Rattle.runs.specs.Counters.{oneMore, evaluations}
+use Rattle.runs.specs.Counters.{evaluations}
 use Rattle.runs.proofs.Apart.{asks-not-ends}
 use Rattle.runs.specs.declared.Outcome.{Outcome}
-use Rattle.runs.specs.declared.Outcome.the-variants.{Refused}
-use Rattle.refusals.specs.declared.Refusal.the-variants.{SuppliedNotFinite}
 use Rattle.hagerzhang_rules.specs.Rules.{answerFinite}
 use Rattle.hagerzhang.specs.declared.state.Waiting.{Waiting}
 use Rattle.hagerzhang.specs.declared.state.Stage.{Stage}
 use Rattle.hagerzhang.specs.declared.state.Stage.the-variants.{Open, Over}
 use Rattle.hagerzhang.specs.declared.state.Search.{Search}
 use Rattle.hagerzhang.specs.declared.state.Turn.{Turn}
-use Rattle.hagerzhang.specs.State.{endedOf, turnedOf}
-use Rattle.hagerzhang.specs.Machine.{keepsOf, heldAt, reactOf, takenOf, answerBy, AnswerSaid}
+use Rattle.hagerzhang.specs.Machine.{heldAt, takenOf, answerBy, AnswerSaid}
 use Rattle.hagerzhang.specs.Meaning.{isOver, OfTheStep, not-refused}
 use Rattle.hagerzhang.proofs.Answering.{Said, goes-on as asks-on, ended, react-said}
 use Rattle.demands.specs.Demand1.{Answered}

@@ -1,37 +1,32 @@
 -- Demand 3 of every Hager-Zhang search that `start` gave: its bracket, its bounds and its counts (`demand3`). From the
 -- rules (hagerzhang_rules/proofs/Demand3.antt), which the machine tells, holds and counts. Assumes nothing.
 use mathlib.Core.Path.{_≡_, refl, sym, ap, _∙_, subst}
-use mathlib.Core.Bool.{Bool, true, false, false≢true}
-use mathlib.Core.List.{List, [], _∷_}
-use Prim.Native.Nat.{ℕ, _+_, _*_, _≤_}
+use mathlib.Core.List.{List, _∷_}
+use Prim.Native.Nat.{_+_, _*_, _≤_}
 use native.Mathlib.Omega.{arith}
 use lib.Ieee.{Float}
 use Rattle.refusals.specs.Results.{value}
-use Rattle.runs.specs.Outcomes.{Ending, stop, limit, refusal, Why, ends, numbered}
-use Rattle.runs.specs.Asking.{Rest, ask, end, Reply, respond, shown, reported, after}
-use Rattle.runs.proofs.Apart.{same-end, asks-not-ends}
+use Rattle.runs.specs.Outcomes.{Ending, stop, limit, refusal, Why, numbered}
+use Rattle.runs.specs.Asking.{Reply}
 use Rattle.runs.proofs.Ends.{EndsWithin, ends-over, ends-accepted, non-finite-once}
 use Rattle.refusals.proofs.Refusals.{Passed, passed}
 use Rattle.hagerzhang_rules.specs.declared.Point.{Point}
 use Rattle.hagerzhang_rules.specs.declared.Options.{Options}
 use Rattle.hagerzhang_rules.specs.declared.Setup.{Setup}
 use Rattle.hagerzhang_rules.specs.Parameters.{setupOf, startRows}
-use Rattle.hagerzhang_rules.specs.Rules.{answerFinite, Report, noneYet, last, iterationsIn, hagerZhang}
-use Rattle.hagerzhang_rules.specs.Iterations.{EndedBecause, by-verdict, by-limit, not-finite, trial-not-finite}
-use Rattle.hagerzhang_rules.specs.Iterations.{U3-not-finite, budget-spent, not-between, already}
-use Rattle.hagerzhang_rules.proofs.UnderWay.{under-way}
-use Rattle.hagerzhang_rules.proofs.Ranges.{level-finite, min-finite, max-finite, start-finite, most-answers}
+use Rattle.hagerzhang_rules.specs.Rules.{answerFinite, Report, iterationsIn, hagerZhang}
+use Rattle.hagerzhang_rules.specs.Iterations.{EndedBecause, by-limit}
+use Rattle.hagerzhang_rules.proofs.Ranges.{most-answers}
 use Rattle.hagerzhang_rules.proofs.Bounds.{search-within}
 use Rattle.hagerzhang_rules.proofs.Demand3 as rules
 use Rattle.hagerzhang.specs.declared.state.Search.{Search}
 use Rattle.hagerzhang.specs.declared.state.Turn.{Turn}
 use Rattle.hagerzhang.specs.Machine.{freshOf, startOf}
-use Rattle.hagerzhang.specs.Meaning.{report}
-use Rattle.demands.specs.Runs.{reachedBy, and-then, finiteBy}
+use Rattle.demands.specs.Runs.{finiteBy}
 use Rattle.demands.specs.Demand1.{Reason}
 use Rattle.demands.specs.Demand3.{AtLimit, Bounded, Demand3}
 use Rattle.demands.proofs.Refused.{fresh-refused}
-use Rattle.demands.proofs.Along.{after-one-more, report-at, report-next, over-at, told-at, asked-by, asked-at}
+use Rattle.demands.proofs.Along.{report-at, report-next, over-at, asked-by, asked-at}
 use Rattle.demands.proofs.Along.{finished-at, tallied-is, evaluations-are}
 
 -- ---- an ending by the limit is at the N-th iteration

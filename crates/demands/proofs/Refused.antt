@@ -2,10 +2,10 @@
 -- 6, 5, 7 or its next step exactly when 01 says so; and every step that it asks is finite, in U3 strictly between its
 -- ends (`refused-rightly`). From the rules (hagerzhang_rules/proofs/Demand3.antt). Assumes nothing.
 use mathlib.Core.Path.{_≡_, refl, sym, ap, _∙_, subst}
-use mathlib.Core.Bool.{Bool, true, false, _&&_, _||_, false≢true}
+use mathlib.Core.Bool.{true, false, _&&_}
 use mathlib.Core.List.{List, []}
-use mathlib.Core.Option.{Option, some, none}
-use Prim.Native.Nat.{ℕ, _<_}
+use mathlib.Core.Option.{some}
+use Prim.Native.Nat.{ℕ}
 use native.Mathlib.Omega.{arith}
 use lib.Dec.{eqb}
 use lib.Ieee.{Float}
@@ -20,12 +20,11 @@ use Rattle.runs.specs.Outcomes.{refusalIn}
 use Rattle.runs.proofs.Apart.{asks-not-ends, same-end}
 use Rattle.refusals.proofs.Refusals.{Passed, passed}
 use Rattle.hagerzhang_rules.specs.declared.Point.{Point}
-use Rattle.hagerzhang_rules.specs.declared.Bracket.{Bracket}
-use Rattle.hagerzhang_rules.specs.declared.Came.the-variants.{To, On}
+use Rattle.hagerzhang_rules.specs.declared.Came.the-variants.{On}
 use Rattle.hagerzhang_rules.specs.declared.Options.{Options}
 use Rattle.hagerzhang_rules.specs.declared.Setup.{Setup}
 use Rattle.hagerzhang_rules.specs.Parameters.{setupOf, startRows}
-use Rattle.hagerzhang_rules.specs.Rules.{middleOf, Summary, Report, last, hagerZhang}
+use Rattle.hagerzhang_rules.specs.Rules.{Summary, Report, last, hagerZhang}
 use Rattle.hagerzhang_rules.specs.Iterations.{standing, had, InU3, AskedBecause, as-trial, inside, EndedBecause}
 use Rattle.hagerzhang_rules.specs.Iterations.{by-verdict, by-limit, not-finite, trial-not-finite, U3-not-finite}
 use Rattle.hagerzhang_rules.specs.Iterations.{budget-spent, not-between, already}
@@ -34,7 +33,7 @@ use Rattle.hagerzhang_rules.proofs.UnderWay.{under-way}
 use Rattle.hagerzhang_rules.proofs.Demand3 as rules
 use Rattle.hagerzhang.specs.declared.state.Turn.{Turn}
 use Rattle.hagerzhang.specs.Machine.{answerOf, freshOf, startOf}
-use Rattle.hagerzhang.specs.Meaning.{OfTheStep, not-refused, six, five, seven}
+use Rattle.hagerzhang.specs.Meaning.{OfTheStep}
 use Rattle.demands.specs.Runs.{reachedBy, and-then}
 use Rattle.demands.specs.Demand1.{Reason, toldInU3, RefusedRightly}
 use Rattle.demands.proofs.Along.{after-one-more, report-at, report-next, told-at, asked-by}
