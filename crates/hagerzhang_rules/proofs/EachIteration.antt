@@ -1,7 +1,7 @@
 -- Demand 3 and the refusals over the whole search, said of each finished iteration, each report, each step that is
 -- asked and each ending (`search-stands`): by one pass through the flow of the rules. Assumes nothing.
 use mathlib.Core.Path.{_≡_, refl, ap}
-use mathlib.Core.Bool.{Bool, true, cond, _&&_}
+use mathlib.Core.Bool.{true, cond, _&&_}
 use mathlib.Core.List.{List, [], _∷_}
 use mathlib.Core.Logic.{inl, inr}
 use mathlib.Core.Option.{Option, some}
@@ -11,7 +11,7 @@ use lib.ListN.{length}
 use lib.Ieee.{Float}
 use lib.Ieee.Scale.{finite}
 use Rattle.floats.specs.Arithmetic.{_<ᶠ_}
-use Rattle.runs.specs.Outcomes.{Ending, Why, refusal, answerNotFinite, stepNotFinite}
+use Rattle.runs.specs.Outcomes.{Ending, Why, refusal, answerNotFinite}
 use Rattle.runs.specs.Asking.{end, Rest, endWith, keeping, reported}
 use Rattle.refusals.proofs.Refusals.{Passed}
 use Rattle.floats.proofs.Branches.{by-cases, and-first, and-second}
@@ -127,12 +127,10 @@ module _ (s : Setup) (fL : finite (s .level) ≡ true) (p : Summary) (fine : Fin
   unfolding trial
   tries asked u x then then' room at go =
       by-cases (Here asked) (finite x)
-      (λ e. asks asked x then then' room (words.as-trial (at .stands) (by-test e) e) (by-test e) (λ f g e'.
-      go f g (rw e e')))
-      (λ e. ends (omega arith) (words.trial-not-finite (at .stands) (by-test e) e))
-    where
-      by-test : {t : Bool} → finite x ≡ t → There asked (cond t (asking s inl k x then') (end (inl (stepNotFinite x))))
-      by-test e = rw e at (at .there)
+      (λ e.
+      let there = rw e at (at .there) in
+      asks asked x then then' room (words.as-trial (at .stands) there e) there (λ f g e'. go f g (rw e e')))
+      (λ e. ends (omega arith) (words.trial-not-finite (at .stands) (rw e at (at .there)) e))
 
   narrows : (m : ℕ) (asked : List Point) (came : Came) (then : Bracket → Rest Report) (then' : Bracket → Alone)
       → length asked + m ≤ 3 + 3 * B → standing s w asked ≡ some came → had s w asked + m ≡ B

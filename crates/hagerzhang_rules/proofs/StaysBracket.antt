@@ -85,7 +85,7 @@ module _ (p : Point) (fp : pointFinite p ≡ true) where
   falling : p .g ≥ᶠ 0ᶠ ≡ false → p .g <ᶠ 0ᶠ ≡ true
   falling = nle→lt 0ᶠ (p .g) zero-real g-real
 
--- ---- an end stays what it was when one more point is asked, or is that point
+-- ---- an end stays what it was when one more point is asked, or is that point, or has not moved
 from-more : {w : Bracket} {asked : List Point} {p : Point} (q : Point) → Came-from w asked p → Came-from w (q ∷ asked) p
 from-more q (former-low e) = former-low e
 from-more q (former-high e) = former-high e
@@ -99,22 +99,15 @@ module _ {w : Bracket} {was : Point} {inside : Float → Bool} {meets : Point �
       → Keeps w was inside meets (c ∷ asked) c
   now fc lies meets = record { from = asked-now here; numbers = fc; lies = lies; stays = λ h. meets }
 
+  unmoved : Came-from w asked was → pointFinite was ≡ true → inside (was .x) ≡ true → Keeps w was inside meets asked was
+  unmoved from numbers lies = record { from = from; numbers = numbers; lies = lies; stays = λ h. h }
+
 -- w itself, where nothing is asked
 pub sound-self : (L : Float) (w : Bracket) → pointFinite (w .a) ≡ true → pointFinite (w .b) ≡ true → Ordered w
     → Sound L w [] w
 sound-self L w fa fb o = record {
-  low = record {
-    from = former-low refl;
-    numbers = fa;
-    lies = le-refl (w .a .x) (x-real (w .a) fa);
-    stays = λ h. h;
-  };
-  high = record {
-    from = former-high refl;
-    numbers = fb;
-    lies = le-refl (w .b .x) (x-real (w .b) fb);
-    stays = λ h. h;
-  };
+  low = unmoved (former-low refl) fa (le-refl (w .a .x) (x-real (w .a) fa));
+  high = unmoved (former-high refl) fb (le-refl (w .b .x) (x-real (w .b) fb));
   in-order = o;
 }
 

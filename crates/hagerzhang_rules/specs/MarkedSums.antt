@@ -21,28 +21,14 @@ use Rattle.hagerzhang_rules.specs.declared.Options.{Options}
 use Rattle.hagerzhang_rules.specs.declared.Setup.{Setup}
 use Rattle.hagerzhang_rules.specs.declared.Further.the-variants.{Nothing, At}
 use Rattle.hagerzhang_rules.specs.declared.Came.the-variants.{To}
-use Rattle.hagerzhang_rules.specs.Parameters.{defaultOptions, setupOf, startRows}
+use Rattle.hagerzhang_rules.specs.Parameters.{defaultOptions, optionsWith, setupOf, startRows}
 use Rattle.hagerzhang_rules.specs.Rules.{point, bracket, answerFinite, secantOf, updateOf, S2, S3, bestOf}
 use Rattle.hagerzhang_rules.specs.Rules.{update, iteration}
 
 -- "epsilon = 0, L = 1, theta = 0.5, a = (0,1,-2), b = (4,9,6) unless said." The start has cost 1 and slope -2; B is the
 -- budget.
 abbrev pub options : ℕ → Options
-options B = record {
-  params = record {
-    delta = defaultOptions .params .delta;
-    sigma = defaultOptions .params .sigma;
-    epsilon = whole 0;
-    theta = defaultOptions .params .theta;
-    gamma = defaultOptions .params .gamma;
-    eta = defaultOptions .params .eta;
-    min = defaultOptions .params .min;
-    max = defaultOptions .params .max;
-    start = defaultOptions .params .start;
-  };
-  budget = B;
-  limit = 100;
-}
+options B = let q = defaultOptions .params in optionsWith (whole 0) (q .min) (q .max) (q .start) B 100
 
 abbrev pub setup : ℕ → Setup
 setup B = record { options = options B; f0 = whole 1; s0 = minus (whole 2); level = whole 1 }

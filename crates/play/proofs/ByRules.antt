@@ -2,12 +2,13 @@
 -- over (`chunks-told`), and it is over after as many turns as there is to tell (`over-in-time`). Of the setup only: its
 -- limit is a u32, and its L is no NaN (`Fits`).
 use mathlib.Core.Path.{_≡_, refl, sym, ap, _∙_, subst}
-use mathlib.Core.Bool.{Bool, true, false, cond}
+use mathlib.Core.Bool.{false, cond}
 use mathlib.Core.List.{List, [], _∷_, _++_, append-assoc}
 use Prim.Native.Nat.{ℕ, zero, suc, _+_, _≤_, _<_}
 use native.Mathlib.Omega.{arith}
 use lib.ListN.{length}
 use lib.Ieee.{Float, isNan}
+use Rattle.floats.proofs.Branches.{by-cases}
 use Rattle.runs.specs.Outcomes.{asks, ends, numbered, told}
 use Rattle.runs.specs.Asking.{Rest, Ended, ask, end, respond, shown, reported, onceTold}
 use Rattle.runs.proofs.Apart.{asks-not-ends, asks-not-over}
@@ -109,10 +110,6 @@ module _ (s : Setup) (fits : Fits s) (c : Curve) where
       abbrev e' : ℕ
       e' = e + cond (answerFinite f g) 1 0
 
-      at-most-one : (a : Bool) → e + cond a 1 0 + m < 4294967295
-      at-most-one true = let h = at .few in omega arith
-      at-most-one false = let h = at .few in omega arith
-
       responds : respond (meant (t .search)) f g ≡ then f g
       unfolding respond
       responds = rw is-run
@@ -129,7 +126,7 @@ module _ (s : Setup) (fits : Fits s) (c : Curve) where
             leaves = z .leaves ∙ ap onceTold responds;
             counts = counted ∙ ap (λ (i : ℕ). i + cond (answerFinite f g) 1 0) n;
             within = more f g;
-            few = at-most-one (answerFinite f g);
+            few = by-cases (λ i. e + i + m < 4294967295) (answerFinite f g) (λ b. omega arith) (λ b. omega arith);
           }
 
       goes-on : answeredOf c t ≡ Pending t'
