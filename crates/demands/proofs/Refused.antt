@@ -14,7 +14,7 @@ use borrow.Author.Tests.{eq-eqb, ne-eqb}
 use Rattle.floats.specs.Arithmetic.{_<ᶠ_}
 use Rattle.refusals.specs.Results.{value}
 use Rattle.runs.specs.Outcomes.{Ending, refusal, Why, numbered, Told, asks, ends}
-use Rattle.runs.specs.Asking.{Rest, ask, end, Reply, respond, shown, reported, after}
+use Rattle.runs.specs.Asking.{Rest, ask, end, Reply, shown, reported, after}
 use Rattle.refusals.specs.Refusals.{given}
 use Rattle.runs.specs.Outcomes.{refusalIn}
 use Rattle.runs.proofs.Apart.{asks-not-ends, same-end}
@@ -34,9 +34,9 @@ use Rattle.hagerzhang_rules.proofs.Demand3 as rules
 use Rattle.hagerzhang.specs.declared.state.Turn.{Turn}
 use Rattle.hagerzhang.specs.Machine.{answerOf, freshOf, startOf}
 use Rattle.hagerzhang.specs.Meaning.{OfTheStep}
-use Rattle.demands.specs.Runs.{reachedBy, and-then}
+use Rattle.demands.specs.Runs.{reachedBy, toldAt, and-then}
 use Rattle.demands.specs.Demand1.{Reason, toldInU3, RefusedRightly}
-use Rattle.demands.proofs.Along.{after-one-more, report-at, report-next, told-at, asked-by}
+use Rattle.demands.proofs.Along.{after-one-more, report-at, told-at, asked-by}
 use Rattle.demands.proofs.Answered.{answered}
 
 -- ---- in U3, from its reasons
@@ -64,13 +64,13 @@ module _ (s : Setup) (p : Summary) (asked : List Point) where
     tells-7 f outside = rw (some-left, ← i .steps-to, f, outside)
 
   module _ (h : Point) (k : Float) (in-U3 : standing s (p .bracket) asked ≡ some (On h k)) where
-    here : {h' : Point} {k' : Float} {t : Told} → standing s (p .bracket) asked ≡ some (On h' k')
+    between-them : {h' : Point} {k' : Float} {t : Told} → standing s (p .bracket) asked ≡ some (On h' k')
         → t ≡ toldInU3 s n h' k' → t ≡ toldInU3 s n h k
-    here {h'} {k'} e told = told ∙ same-ends (toldInU3 s n) h' h k' k (sym e ∙ in-U3)
+    between-them {h'} {k'} e told = told ∙ same-ends (toldInU3 s n) h' h k' k (sym e ∙ in-U3)
 
     tells-asked : {x : Float} → AskedBecause s p asked x → asks x ≡ toldInU3 s n h k
     tells-asked (as-trial {u = u} e a f) = absurd (to-not-on u h k (sym e ∙ in-U3))
-    tells-asked (inside i f strictly) = here (i .stands) (tells-step i f strictly)
+    tells-asked (inside i f strictly) = between-them (i .stands) (tells-step i f strictly)
 
 tells-ended : (s : Setup) (p : Summary) (asked : List Point) (h : Point) (k : Float) (e : Ending Why)
     → EndedBecause s (last p) asked e
@@ -83,11 +83,11 @@ tells-ended s p asked h k e (by-limit j i) in-U3 o = absurd (to-not-on (p .brack
 tells-ended s p asked h k e (not-finite u) in-U3 o = elim o [ ]
 tells-ended s p asked h k e (trial-not-finite {u = u} t a x) in-U3 o = absurd (to-not-on u h k (sym t ∙ in-U3))
 tells-ended s p asked h k e (U3-not-finite i f) in-U3 o =
-    here s p asked h k in-U3 (i .stands) (tells-5 s p asked i f)
+    between-them s p asked h k in-U3 (i .stands) (tells-5 s p asked i f)
 tells-ended s p asked h k e (budget-spent t all) in-U3 o =
     rw (eq-eqb (had s (p .bracket) asked) (s .options .budget) all)
 tells-ended s p asked h k e (not-between i f outside) in-U3 o =
-    here s p asked h k in-U3 (i .stands) (tells-7 s p asked i f outside)
+    between-them s p asked h k in-U3 (i .stands) (tells-7 s p asked i f outside)
 tells-ended s p asked h k e already in-U3 o = elim o [ ]
 
 -- ---- a start that no row refuses
@@ -95,59 +95,55 @@ module _ (o : Options) (f0 s0 : Float) (ok : Passed (startRows o f0 s0)) where
   abbrev s : Setup
   s = setupOf o f0 s0
 
-  abbrev asked-then : List Reply → Reply → List Point
-  asked-then ys y = under-way [] (hagerZhang s) (and-then ys y)
+  abbrev here : List Reply → Rest Report
+  here ys = after (hagerZhang s) ys
 
-  because : (ys : List Reply) (y : Reply) (e : Ending ℕ) (r : Rest Report)
-      → respond (after (hagerZhang s) ys) (y .0) (y .1) ≡ r
-      → shown r ≡ ends e → Reason s (reported r) (asked-then ys y) e
+  abbrev asked : List Reply → List Point
+  asked ys = under-way [] (hagerZhang s) ys
+
+  because : (ys : List Reply) (e : Ending ℕ) (r : Rest Report) → here ys ≡ r → shown r ≡ ends e
+      → Reason s (reported r) (asked ys) e
   unfolding shown reported
-  because ys y e (ask k z then) is shows = absurd (asks-not-ends z e (sym shows))
-  because ys y e (end o') is shows = record {
+  because ys e (ask k z then) is shows = absurd (asks-not-ends z e (sym shows))
+  because ys e (end o') is shows = record {
     reason = o' .by;
     told-as = same-end (numbered (o' .by)) e shows;
-    true-of = rules.ends o f0 s0 ok (and-then ys y) (o' .keeps) (o' .by) (after-one-more (hagerZhang s) ys y ∙ is);
+    true-of = rules.ends o f0 s0 ok ys (o' .keeps) (o' .by) is;
   }
 
-  shown-next : (ys : List Reply) (y : Reply)
-      → shown (after (hagerZhang s) (and-then ys y)) ≡ shown (respond (after (hagerZhang s) ys) (y .0) (y .1))
-  shown-next ys y = ap shown (after-one-more (hagerZhang s) ys y)
-
-  goes-on-in : (ys : List Reply) (y : Reply) (p : Summary) (h : Point) (k : Float) (r : Rest Report)
-      → respond (after (hagerZhang s) ys) (y .0) (y .1) ≡ r → reported r ≡ last p
-      → standing s (p .bracket) (asked-then ys y) ≡ some (On h k) → OfTheStep (refusalIn (shown r))
-      → shown r ≡ toldInU3 s (had s (p .bracket) (asked-then ys y)) h k
+  tells-in-U3 : (ys : List Reply) (p : Summary) (h : Point) (k : Float) (r : Rest Report) → here ys ≡ r
+      → reported r ≡ last p → standing s (p .bracket) (asked ys) ≡ some (On h k) → OfTheStep (refusalIn (shown r))
+      → shown r ≡ toldInU3 s (had s (p .bracket) (asked ys)) h k
   unfolding shown reported
-  goes-on-in ys y p h k (ask k' x then) is e in-U3 o' =
-      let here = after-one-more (hagerZhang s) ys y ∙ is in
-      tells-asked s p (asked-then ys y) h k in-U3
-      (rules.asks o f0 s0 ok (and-then ys y) p x (ap reported here ∙ e) (ap shown here))
-  goes-on-in ys y p h k (end o'') is e in-U3 o' =
-      let reason : EndedBecause s (o'' .keeps) (asked-then ys y) (o'' .by) =
-      rules.ends o f0 s0 ok (and-then ys y) (o'' .keeps) (o'' .by) (after-one-more (hagerZhang s) ys y ∙ is) in
-      tells-ended s p (asked-then ys y) h k (o'' .by)
-      (subst (λ (l : Report). EndedBecause s l (asked-then ys y) (o'' .by)) e reason) in-U3 o'
+  tells-in-U3 ys p h k (ask k' x then) is e in-U3 step =
+      tells-asked s p (asked ys) h k in-U3 (rules.asks o f0 s0 ok ys p x (ap reported is ∙ e) (ap shown is))
+  tells-in-U3 ys p h k (end o') is e in-U3 step =
+      tells-ended s p (asked ys) h k (o' .by)
+      (subst (λ (l : Report). EndedBecause s l (asked ys) (o' .by)) e (rules.ends o f0 s0 ok ys (o' .keeps) (o' .by) is))
+      in-U3 step
+
+  told-so : (ys : List Reply) (y : Reply) → toldAt (freshOf s .search) ys y ≡ shown (here (and-then ys y))
+  told-so ys y = told-at o f0 s0 ok ys y ∙ ap shown (sym (after-one-more (hagerZhang s) ys y))
 
   pub fresh-refused : RefusedRightly o f0 s0 (freshOf s)
   unfolding given
   fresh-refused = record {
     ended = λ ys y e q.
-        rw (report-next o f0 s0 ok ys y, asked-by o f0 s0 ok (and-then ys y))
-        (because ys y e (respond (after (hagerZhang s) ys) (y .0) (y .1)) refl (sym (told-at o f0 s0 ok ys y) ∙ q));
+        let zs = and-then ys y in
+        rw (report-at o f0 s0 ok zs, asked-by o f0 s0 ok zs)
+        (because zs e (here zs) refl (sym (told-so ys y) ∙ q));
     in-U3 = λ ys y runs fine p h k e stands.
+        let zs = and-then ys y in
         let c = reachedBy (freshOf s .search) ys in
         let step = answered c (y .0) (y .1) (answerOf c (y .0) (y .1)) refl .otherwise (rw (runs, fine)) in
-        rw (asked-by o f0 s0 ok (and-then ys y)) (told-at o f0 s0 ok ys y
-        ∙ goes-on-in ys y p h k (respond (after (hagerZhang s) ys) (y .0) (y .1)) refl
-        (sym (report-next o f0 s0 ok ys y) ∙ e)
-        (rw (asked-by o f0 s0 ok (and-then ys y)) at stands)
-        (subst (λ (q : Told). OfTheStep (refusalIn q)) (told-at o f0 s0 ok ys y) step));
-    asks-finite = λ ys y x e.
-        rules.asks-finite o f0 s0 ok (and-then ys y) x (shown-next ys y ∙ sym (told-at o f0 s0 ok ys y) ∙ e);
+        rw (asked-by o f0 s0 ok zs) (told-so ys y
+        ∙ tells-in-U3 zs p h k (here zs) refl (sym (report-at o f0 s0 ok zs) ∙ e) (rw (asked-by o f0 s0 ok zs) at stands)
+        (subst (λ (q : Told). OfTheStep (refusalIn q)) (told-so ys y) step));
+    asks-finite = λ ys y x e. rules.asks-finite o f0 s0 ok (and-then ys y) x (sym (told-so ys y) ∙ e);
     asks-rightly = λ ys y x e p h.
-        rw (asked-by o f0 s0 ok (and-then ys y))
-        (rules.asks o f0 s0 ok (and-then ys y) p x (sym (report-at o f0 s0 ok (and-then ys y)) ∙ h)
-        (shown-next ys y ∙ sym (told-at o f0 s0 ok ys y) ∙ e));
+        let zs = and-then ys y in
+        rw (asked-by o f0 s0 ok zs)
+        (rules.asks o f0 s0 ok zs p x (sym (report-at o f0 s0 ok zs) ∙ h) (sym (told-so ys y) ∙ e));
   }
 
 pub refused-rightly : (o : Options) (f0 s0 : Float) (t : Turn) → startOf o f0 s0 ≡ value t → RefusedRightly o f0 s0 t
