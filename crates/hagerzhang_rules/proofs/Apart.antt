@@ -1,4 +1,4 @@
--- The cases of a report, and of what an answer comes to, are apart, and each says what it carries. Assumes nothing.
+-- The cases of a report, and of what an answer comes to, are apart. Assumes nothing.
 use mathlib.Core.Path.{_≡_}
 use mathlib.Core.Option.{some}
 use Prim.Native.Nat.{ℕ}
@@ -11,9 +11,6 @@ use Rattle.hagerzhang_rules.specs.Rules.{Summary, noneYet, last}
 
 pub none-not-last : (p : Summary) → noneYet ≡ last p → ⊥
 none-not-last p e = let z : _≡_ {A = ℕ} 0 1 = cc in omega arith
-
-pub same-last : (p q : Summary) → last p ≡ last q → p ≡ q
-same-last p q e = cc
 
 pub to-not-on : (u : Bracket) (h : Point) (k : Float) → some (To u) ≡ some (On h k) → ⊥
 to-not-on u h k e = let z : _≡_ {A = ℕ} 0 1 = cc in omega arith

@@ -237,9 +237,9 @@ module _ (s : Setup) where
       by-cases Q (lowest c a b) (λ e. fc)
       (λ e. by-cases Q (lowest b a c) (λ e. fb) (λ e. by-cases Q (lowest a b c) (λ e. fa) (λ e. fa)))
 
-  report-fine : (w : Bracket) (c : Point) (i : ℕ) → pointFinite (w .a) ≡ true → pointFinite (w .b) ≡ true
+  fine-report : (w : Bracket) (c : Point) (i : ℕ) → pointFinite (w .a) ≡ true → pointFinite (w .b) ≡ true
       → pointFinite c ≡ true → Ordered w → i ≤ s .options .limit → Fine s (reportOf s w c i)
-  report-fine w c i fa fb fc o few = record {
+  fine-report w c i fa fb fc o few = record {
     numbers = let best = best-finite (w .a) (w .b) c fa fb fc in rw (fa, fb) best;
     in-order = o;
     counted = few;
@@ -268,7 +268,7 @@ module _ (s : Setup) where
         few = few;
       })
       (rounds-stand fL n v c (i + 1) (omega arith)
-      (report-fine v c (i + 1) (m .low .numbers) (m .high .numbers) fc (m .in-order) (omega arith)) fc))))
+      (fine-report v c (i + 1) (m .low .numbers) (m .high .numbers) fc (m .in-order) (omega arith)) fc))))
 
 -- ---- the start: a, b and c are asked
 module _ (o : Options) (f0 s0 : Float) (ok : Passed (startRows o f0 s0)) where
@@ -302,4 +302,4 @@ module _ (o : Options) (f0 s0 : Float) (ok : Passed (startRows o f0 s0)) where
       let c = point (q .start) f g in
       begins (rounds-report s (o .limit) w c 0) refl
       (rounds-stand s (level-finite o f0 s0 ok) (o .limit) w c 0 (omega arith)
-      (report-fine s w c 0 fa fb fc (low-below-high o f0 s0 ok) (omega arith)) fc)))))
+      (fine-report s w c 0 fa fb fc (low-below-high o f0 s0 ok) (omega arith)) fc)))))
