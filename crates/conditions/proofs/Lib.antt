@@ -1,2 +1,1 @@
-pub mod MarkedSums
 pub mod Determined

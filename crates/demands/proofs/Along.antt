@@ -21,7 +21,7 @@ use Rattle.hagerzhang_rules.specs.Parameters.{setupOf, startRows}
 use Rattle.hagerzhang_rules.specs.Rules.{answerFinite, Report, hagerZhang}
 use Rattle.hagerzhang_rules.specs.Iterations.{progress}
 use Rattle.hagerzhang_rules.proofs.UnderWay.{noted, kept, under-way, finished-by}
-use Rattle.hagerzhang_rules.proofs.Ranges.{limit-fits, level-finite, min-finite, max-finite, start-finite, most-answers}
+use Rattle.hagerzhang_rules.proofs.Ranges.{limit-fits, level-finite, most-answers}
 use Rattle.hagerzhang_rules.proofs.Bounds.{search-within}
 use Rattle.hagerzhang.specs.declared.state.Stage.{Stage}
 use Rattle.hagerzhang.specs.declared.state.Stage.the-variants.{Open, Over}
@@ -78,9 +78,7 @@ module _ (o : Options) (f0 s0 : Float) (ok : Passed (startRows o f0 s0)) where
     rules = hagerZhang s;
     whole = whole s;
     most = 3 + o .limit * (3 + 3 * o .budget);
-    within =
-        search-within s (level-finite o f0 s0 ok) (min-finite o f0 s0 ok) (max-finite o f0 s0 ok)
-        (start-finite o f0 s0 ok);
+    within = search-within o f0 s0 ok;
     countable = let most = most-answers o f0 s0 ok in omega arith;
   }
 

@@ -51,7 +51,7 @@ module _ (b : Backtracking) (f g : Float) (stage : Stage) (w : b .stage ≡ stag
     keeps-if : (a : Bool) → isFinite ≡ a → cond a (now .0) (b .iterations .0) ≡ trialsKept b (b .stage) f g
     keeps-if a e =
         sym (ap (λ (at : Stage). trialsKept b at f g) w ∙ kept
-      ∙ ap (λ (v : Bool). cond v (now .0) (b .iterations .0)) e)
+        ∙ ap (λ (v : Bool). cond v (now .0) (b .iterations .0)) e)
 
     -- an outcome that is told as the rows say
     comes : (a : Bool) → isFinite ≡ a → (i : Iterations) (at : Stage) (out : Outcome)

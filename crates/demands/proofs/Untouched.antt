@@ -7,7 +7,7 @@ use lib.Ieee.{Float}
 use Rattle.runs.specs.Asking.{Reply, Machine, reached}
 use Rattle.hagerzhang.specs.declared.state.Search.{Search}
 use Rattle.hagerzhang.specs.Meaning.{report}
-use Rattle.hagerzhang_rules.proofs.Demand3.{Holds}
+use Rattle.hagerzhang_rules.proofs.Along.{Holds}
 
 pub untouched-keeps : (m : Machine Search) → ((s : Search) (f g : Float) → m .next s f g ≡ s)
     → (L : Float) (s : Search) (ys : List Reply) → Holds L (report s) → Holds L (report (reached m s ys))

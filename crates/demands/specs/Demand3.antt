@@ -1,6 +1,6 @@
 -- Demand 3: the bracket, the bounds and the counts, of every Hager-Zhang search that `start` gave and every list of
--- answers.
--- Its words stand in rules/specs/Iterations.antt. (Backtracking: specs/Backtracking.antt.)
+-- answers. Its words stand in hagerzhang_rules/specs, Brackets.antt and Iterations.antt. (Backtracking:
+-- specs/Backtracking.antt.)
 use Prim.Native.Nat.{ℕ, _+_, _*_, _≤_}
 use mathlib.Core.Path.{_≡_}
 use mathlib.Core.Bool.{true}
@@ -15,7 +15,8 @@ use Rattle.hagerzhang_rules.specs.declared.Options.{Options}
 use Rattle.hagerzhang_rules.specs.declared.Setup.{Setup}
 use Rattle.hagerzhang_rules.specs.Parameters.{setupOf}
 use Rattle.hagerzhang_rules.specs.Rules.{point, Summary, Report, last, iterationsIn}
-use Rattle.hagerzhang_rules.specs.Iterations.{Premise, Bracketed, Within, Whole, Brings}
+use Rattle.hagerzhang_rules.specs.Brackets.{premise, Ordered}
+use Rattle.hagerzhang_rules.specs.Iterations.{Whole, Brings}
 use Rattle.hagerzhang.specs.declared.state.Search.{Search}
 use Rattle.hagerzhang.specs.declared.state.Turn.{Turn}
 use Rattle.hagerzhang.specs.Machine.{startOf}
@@ -46,19 +47,17 @@ module _ (o : Options) (f0 s0 : Float) (t : Turn) where
   high-end y = point (o .params .max) (y .0) (y .1)
 
   pub record Bounded : Type 0 where
+    -- "low step < high step": of whatever bracket is held, whatever the slopes are
+    pub bracket-ordered : (ys : List Reply) (p : Summary) → report (reachedBy b ys) ≡ last p → Ordered (p .bracket)
     -- "Let the answered starting ends have low slope < 0, low cost <= L .. and high slope >= 0. Then after each
-    -- finished iteration the bracket meets the same three, low step < high step": whatever bracket is held
-    pub bracket-stays : (ya yb yc : Reply) (ys : List Reply) → Premise (s .level) (low-end ya) (high-end yb)
-        → (p : Summary) → report (reachedBy b (ya ∷ yb ∷ yc ∷ ys)) ≡ last p → Bracketed (s .level) (p .bracket)
-    -- "and it lies within the former bracket": where one more answer counts one more iteration
-    pub bracket-narrows : (ya yb yc : Reply) (ys : List Reply) → Premise (s .level) (low-end ya) (high-end yb)
-        → (y : Reply) (p q : Summary)
-        → report (reachedBy b (ya ∷ yb ∷ yc ∷ ys)) ≡ last p
-        → report (reachedBy b (and-then (ya ∷ yb ∷ yc ∷ ys) y)) ≡ last q
-        → q .iterations ≡ p .iterations + 1
-        → Within (p .bracket) (q .bracket)
-    -- "Each end is, bit for bit, a former end or a step asked in that iteration with its answer": whatever the slopes
-    -- are; and its answers are those of a whole iteration
+    -- finished iteration the bracket meets the same three": whatever bracket is held
+    pub bracket-stays : (ya yb yc : Reply) (ys : List Reply)
+        → premise (s .level) (low-end ya) (high-end yb) ≡ true
+        → (p : Summary) → report (reachedBy b (ya ∷ yb ∷ yc ∷ ys)) ≡ last p
+        → premise (s .level) (p .bracket .a) (p .bracket .b) ≡ true
+    -- "and it lies within the former bracket. Each end is, bit for bit, a former end or a step asked in that iteration
+    -- with its answer": `narrows`, `low-from` and `high-from` of `Whole`, where one more answer counts one more
+    -- iteration. No premise, whatever the slopes are: with the two above demand 3's own sentence follows
     pub each-iteration : (ys : List Reply) (y : Reply) (p q : Summary)
         → report (reachedBy b ys) ≡ last p
         → report (reachedBy b (and-then ys y)) ≡ last q

@@ -7,26 +7,18 @@ use lib.Dec.{eqb}
 use lib.Ieee.{Float}
 use lib.Ieee.Scale.{finite}
 use Rattle.floats.specs.Arithmetic.{_<ᶠ_}
-use Rattle.runs.specs.Outcomes.{asks, told}
-use Rattle.runs.specs.Outcomes.{refusalIn}
+use Rattle.runs.specs.Outcomes.{Ending, ends, told, refusalIn}
 use Rattle.runs.specs.declared.Outcome.{Outcome}
 use Rattle.runs.specs.declared.Outcome.the-variants.{Ask}
-use Rattle.runs.proofs.Apart.{asks-not-ends}
 use Rattle.runs.specs.Asking.{reported, awaits}
 use Rattle.runs.specs.Counters.{oneMore}
-use Rattle.floats.proofs.Branches.{either, by-test}
+use Rattle.floats.proofs.Branches.{by-cases, by-cases₂}
 use Rattle.hagerzhang_rules.specs.declared.Setup.{Setup}
-use Rattle.hagerzhang_rules.specs.declared.Point.{Point}
-use Rattle.hagerzhang_rules.specs.declared.Bracket.{Bracket}
 use Rattle.hagerzhang_rules.specs.Rules.{answerFinite, middleOf}
-use Rattle.hagerzhang_rules.proofs.StaysBracket.{if-so}
 use Rattle.hagerzhang.specs.declared.state.Finished.{Finished}
-use Rattle.hagerzhang.specs.declared.state.Trial.{Trial}
-use Rattle.hagerzhang.specs.declared.state.Narrowing.{Narrowing}
 use Rattle.hagerzhang.specs.declared.moves.Move.{Move}
 use Rattle.hagerzhang.specs.declared.moves.Move.the-variants.{Try, Narrow, Stop as ByVerdict, Limit as ByLimit}
 use Rattle.hagerzhang.specs.declared.moves.Tested.{Tested}
-use Rattle.hagerzhang.specs.declared.moves.Tested.the-variants.{Try as Asks, Narrow as Narrows, End as Stops}
 use Rattle.hagerzhang.specs.declared.iteration.Then.{Then}
 use Rattle.hagerzhang.specs.declared.iteration.Then.the-variants.{Go, Close}
 use Rattle.hagerzhang.specs.declared.state.Kept.{Kept}
@@ -35,16 +27,19 @@ use Rattle.hagerzhang.specs.declared.state.Waiting.{Waiting}
 use Rattle.hagerzhang.specs.declared.state.Waiting.the-variants.{Low, High, StartStep, Running}
 use Rattle.hagerzhang.specs.declared.state.Stage.{Stage}
 use Rattle.hagerzhang.specs.declared.state.Stage.the-variants.{Open, Over}
+use Rattle.hagerzhang.specs.declared.state.Next.{Next}
 use Rattle.hagerzhang.specs.declared.state.Search.{Search}
 use Rattle.hagerzhang.specs.declared.state.Turn.{Turn}
 use Rattle.hagerzhang.specs.Moves.{attemptOf, probeOf, testOf, madeBy, madeOf}
 use Rattle.hagerzhang.specs.Iteration.{wentOf}
 use Rattle.hagerzhang.specs.Machine.{reactOf, heldAt, heldOf, awaitedAt, awaitedOf, takenOf, answerBy}
-use Rattle.hagerzhang.specs.Meaning.{keptReport, dueTold, OfTheStep, not-refused, six, five, seven, meaning, meant}
+use Rattle.hagerzhang.specs.Meaning.{keptReport, dueTold, OfTheStep, not-refused, six, five, seven, meaning}
+use Rattle.hagerzhang.specs.Meaning.{meant}
 
 pub setup-kept : (b : Search) (f g : Float) (stage : Stage) → answerBy b f g stage .search .setup ≡ b .setup
 unfolding answerBy takenOf
-setup-kept b f g (Open waiting) = either (λ (r : Turn). r .search .setup) (answerFinite f g) _ _ (b .setup) refl refl
+setup-kept b f g (Open waiting) =
+    by-cases (λ (r : Turn). r .search .setup ≡ b .setup) (answerFinite f g) (λ e. refl) (λ e. refl)
 setup-kept b f g (Over kept) = refl
 
 pub one-more-if-finite : (b : Search) (f g : Float) (waiting : Waiting)
@@ -52,8 +47,7 @@ pub one-more-if-finite : (b : Search) (f g : Float) (waiting : Waiting)
     ≡ cond (answerFinite f g) (oneMore (b .evaluations .0)) (b .evaluations .0)
 unfolding answerBy takenOf
 one-more-if-finite b f g waiting =
-    by-test (λ (r : Turn). r .search .evaluations .0) (answerFinite f g) _ _ (oneMore (b .evaluations .0))
-    (b .evaluations .0) refl refl
+    by-cases₂ (λ (r : Turn) (n : ℕ). r .search .evaluations .0 ≡ n) (answerFinite f g) (λ e. refl) (λ e. refl)
 
 -- what is held and what is awaited are what the rules report and await
 pub reports : (s : Setup) (stage : Stage) → reported (meaning s stage) ≡ keptReport (heldAt stage)
@@ -77,48 +71,32 @@ awaited-promised s r e = (e, ap dueTold e ∙ sym (awaited (s .setup) (s .stage)
 -- what is told is an ask exactly while the search is not over
 pub data Said : Stage → Outcome → Type 0 where
   goes-on : {waiting : Waiting} {x : Float} → Said (Open waiting) (Ask x)
-  ended : {kept : Kept} {o : Outcome} → OfTheStep (refusalIn (told o)) → ((x : Float) → told o ≡ asks x → ⊥)
+  ended : {kept : Kept} {o : Outcome} {e : Ending ℕ} → told o ≡ ends e → OfTheStep (refusalIn (ends e))
       → Said (Over kept) o
 
-data Fine : Tested → Type 0 where
-  tries : {u : Bracket} {t : Trial} → Fine (Asks u t)
-  narrows : {t : Trial} {e : Narrowing} → Fine (Narrows t e)
-  stops : {o : Outcome} → OfTheStep (refusalIn (told o)) → ((x : Float) → told o ≡ asks x → ⊥) → Fine (Stops o)
+abbrev Says : Next → Type 0
+Says n = Said (n .stage) (n .outcome)
 
--- the machine's cases are private to it
-made-so : (fin : Finished) {m : Tested} → Fine m → let n = madeBy fin m in Said (n .stage) (n .outcome)
-unfolding madeBy
-made-so fin tries = goes-on
-made-so fin narrows = goes-on
-made-so fin (stops a b) = ended a b
-
-probe-fine : (theta : Float) (t : Trial) (h : Point) (k : Float) (left : ℕ) → Fine (probeOf theta t h k left)
-unfolding probeOf
-probe-fine theta t h k left =
+made-said : (theta : Float) (fin : Finished) (m : Move) → Says (madeOf theta fin m)
+unfolding testOf attemptOf probeOf madeBy
+made-said theta fin (Try u t) =
+    by-cases (λ m. Says (madeBy fin m)) (finite (t .x)) (λ e. goes-on) (λ e. ended refl five)
+made-said theta fin (Narrow t h k left) =
     let d = middleOf theta h k in
-    if-so Fine (eqb left 0) (λ e. stops six (λ x q. asks-not-ends x _ q))
-    (λ e. if-so Fine (finite d)
-    (λ e. if-so Fine (h .x <ᶠ d && d <ᶠ k) (λ e. narrows) (λ e. stops seven (λ x q. asks-not-ends x _ q)))
-    (λ e. stops five (λ x q. asks-not-ends x _ q)))
+    let Q : Tested → Type 0 = λ m. Says (madeBy fin m) in
+    by-cases Q (eqb left 0) (λ e. ended refl six)
+    (λ e. by-cases Q (finite d)
+    (λ e. by-cases Q (h .x <ᶠ d && d <ᶠ k) (λ e. goes-on) (λ e. ended refl seven))
+    (λ e. ended refl five))
+made-said theta fin (ByVerdict v) = ended refl not-refused
+made-said theta fin ByLimit = ended refl not-refused
 
-tested-fine : (theta best : Float) (m : Move) → Fine (testOf theta best m)
-unfolding testOf attemptOf
-tested-fine theta best (Try u t) =
-    if-so Fine (finite (t .x)) (λ e. tries) (λ e. stops five (λ x q. asks-not-ends x _ q))
-tested-fine theta best (Narrow t h k left) = probe-fine theta t h k left
-tested-fine theta best (ByVerdict v) = stops not-refused (λ x q. asks-not-ends x _ q)
-tested-fine theta best ByLimit = stops not-refused (λ x q. asks-not-ends x _ q)
-
-made-said : (theta : Float) (fin : Finished) (m : Move) → let n = madeOf theta fin m in Said (n .stage) (n .outcome)
-made-said theta fin m = made-so fin (tested-fine theta (fin .best .x) m)
-
-went-said : (s : Setup) (fin : Finished) (t : Then) → let n = wentOf s fin t in Said (n .stage) (n .outcome)
+went-said : (s : Setup) (fin : Finished) (t : Then) → Says (wentOf s fin t)
 unfolding wentOf
 went-said s fin (Go m) = made-said (s .options .params .theta) fin m
 went-said s fin (Close u) = made-said (s .options .params .theta) _ _
 
-pub react-said : (s : Setup) (waiting : Waiting) (f g : Float) → let n = reactOf s waiting f g in
-    Said (n .stage) (n .outcome)
+pub react-said : (s : Setup) (waiting : Waiting) (f g : Float) → Says (reactOf s waiting f g)
 unfolding reactOf
 react-said s Low f g = goes-on
 react-said s (High a) f g = goes-on

@@ -1,7 +1,7 @@
 -- One answer to the machine is one answer to 01's rules: what the next state stands for is what the rules leave, and
 -- what is told is what they tell (`answers`). Of the state only: its limit is a u32, and its L is no NaN.
 use mathlib.Core.Path.{_≡_, refl, ap, _∙_}
-use mathlib.Core.Bool.{Bool, true, false, cond, _&&_}
+use mathlib.Core.Bool.{true, false, _&&_}
 use Prim.Native.Nat.{ℕ, zero, suc, _+_, _-_, _≤_, _<_}
 use native.Mathlib.Nat.{suc-ne-zero}
 use native.Mathlib.Omega.{arith}
@@ -14,10 +14,10 @@ use Rattle.refusals.specs.Results.{Result, value, refused}
 use Rattle.runs.specs.Outcomes.{limit, refusal, Told, ends, told}
 use Rattle.runs.specs.Asking.{Rest, endWith, keeping, respond, shown, firstOf, onceTold}
 use Rattle.runs.specs.Counters.{oneMore, evaluations, iterations}
-use Rattle.runs.proofs.Machines.{Seen, seen, picks, picks-by, counts-on}
+use Rattle.runs.proofs.Machines.{Seen, seen, counts-on}
 use Rattle.refusals.proofs.Refusals.{alike}
 use Rattle.runs.specs.declared.Evaluations.{Evaluations}
-use Rattle.floats.proofs.Branches.{and-first, and-second}
+use Rattle.floats.proofs.Branches.{by-cases, by-cases₂, and-first, and-second}
 use Rattle.hagerzhang.specs.declared.state.Asked.{Asked}
 use Rattle.hagerzhang.specs.declared.state.Asked.the-variants.{Update, Between}
 use Rattle.hagerzhang_rules.specs.declared.Point.{Point}
@@ -49,12 +49,18 @@ use Rattle.hagerzhang.specs.declared.state.Turn.{Turn}
 use Rattle.hagerzhang.specs.declared.state.Started.{Started}
 use Rattle.hagerzhang.specs.declared.state.Started.the-variants.{Began, NoSearch}
 use Rattle.hagerzhang_rules.specs.Parameters.{setupOf, startRows}
-use Rattle.hagerzhang_rules.specs.Rules.{point, answerFinite, middleOf, secantOf, S4, L2, bestOf, judgeOf, trial, between, U3, updating, update, further, afterS4, afterS1, iteration, Report, reportOf, decided, verdict, rounds, askStart, askHigh, hagerZhang}
+use Rattle.hagerzhang_rules.specs.Rules.{point, answerFinite, middleOf, secantOf, S4, L2, bestOf, judgeOf, trial}
+use Rattle.hagerzhang_rules.specs.Rules.{between, U3, updating, update, further, afterS4, afterS1, iteration, Report}
+use Rattle.hagerzhang_rules.specs.Rules.{reportOf, decided, verdict, rounds, askStart, askHigh, hagerZhang}
 use Rattle.hagerzhang_decisions.proofs.Decides.{decides}
-use Rattle.hagerzhang.specs.Moves.{triesOf, finishedOf, attemptOf, probeOf, testOf, madeBy, outlookBy, madeOf, settledOf}
-use Rattle.hagerzhang.specs.Iteration.{comesOf, leftOf, triedBy, afterS4Of, afterS1Of, followBy, onwardOf, wentOf, runningOf}
-use Rattle.hagerzhang.specs.Machine.{reactOf, keepsOf, stepAsked, stepDue, takenOf, answerBy, answerOf, freshOf, startOf, StartSaid, AnswerSaid}
-use Rattle.hagerzhang.specs.Meaning.{lastOf, keptReport, closed, afterTrial, onAsked, onAnswer, meaning, meant, begun, Starts, Follows}
+use Rattle.hagerzhang.specs.Moves.{triesOf, finishedOf, attemptOf, probeOf, testOf, madeBy, outlookBy, madeOf}
+use Rattle.hagerzhang.specs.Moves.{settledOf}
+use Rattle.hagerzhang.specs.Iteration.{comesOf, leftOf, triedBy, afterS4Of, afterS1Of, followBy, onwardOf, wentOf}
+use Rattle.hagerzhang.specs.Iteration.{runningOf}
+use Rattle.hagerzhang.specs.Machine.{reactOf, keepsOf, stepAsked, stepDue, takenOf, answerBy, answerOf, freshOf}
+use Rattle.hagerzhang.specs.Machine.{startOf, StartSaid, AnswerSaid}
+use Rattle.hagerzhang.specs.Meaning.{lastOf, keptReport, closed, afterTrial, onAsked, onAnswer, meaning, meant}
+use Rattle.hagerzhang.specs.Meaning.{begun, Starts, Follows}
 
 denote : Setup → Next → Seen Report
 denote s n = (meaning s (n .stage), told (n .outcome))
@@ -74,8 +80,8 @@ module _ (s : Setup) (fin : Finished) where
   abbrev went : Then → Seen Report
   went t = denote s (wentOf s fin t)
 
-  abbrev put : Tested → Seen Report
-  put t = denote s (madeBy fin t)
+  abbrev Means : Tested → Rest Report → Type 0
+  Means t r = denote s (madeBy fin t) ≡ seen r
 
   -- a trial (5)
   tries : (rule : Rule) (w : Bracket) (x : Float)
@@ -83,7 +89,7 @@ module _ (s : Setup) (fin : Finished) where
       ≡ seen (trial s (keeping k) k x (λ c. update s (keeping k) k w c (afterTrial s fin rule x)))
   unfolding attemptOf testOf madeBy trial onAnswer onAsked keepsOf stepDue stepAsked keptReport denote seen onceTold
       shown meaning
-  tries rule w x = picks put (finite x) _ _ _ _ refl refl
+  tries rule w x = by-cases₂ Means (finite x) (λ e. refl) (λ e. refl)
 
 -- ---- the start or an iteration is finished: the verdict, the limit, and S1 of the next iteration
 module _ (s : Setup) (h : s .options .limit < 4294967296) (w : Bracket) (c : Point) (i : ℕ) where
@@ -114,15 +120,13 @@ module _ (s : Setup) (h : s .options .limit < 4294967296) (w : Bracket) (c : Poi
 
   unjudged : moved s done (outlookBy s done Fails) ≡ seen (onwards (N - i))
   unfolding outlookBy
-  unjudged = go (leb N i) refl
-    where
-      go : (b : Bool) → leb N i ≡ b
-          → moved s done (cond b ByLimit (triesOf w ByS1 (secantOf (w .a) (w .b)))) ≡ seen (onwards (N - i))
-      go true e = limits (N - i) (let l : N ≤ i = leb-true N i e in omega arith)
-      go false e =
-          let l : i < N = leb-false N i e in
-          let p : oneMore i ≡ i + 1 = counts-on i N h l in
-          begins (N - i) p (rw p (omega arith))
+  unjudged =
+      by-cases (λ m. moved s done m ≡ seen (onwards (N - i))) (leb N i)
+      (λ e. limits (N - i) (let l : N ≤ i = leb-true N i e in omega arith))
+      (λ e.
+      let l : i < N = leb-false N i e in
+      let p : oneMore i ≡ i + 1 = counts-on i N h l in
+      begins (N - i) p (rw p (omega arith)))
 
   judges : (go : Rest Report) → moved s done (outlookBy s done Fails) ≡ seen go → (j : Judged)
       → moved s done (outlookBy s done j) ≡ seen (decided (reportOf s w c i) (done .best .x) go j)
@@ -192,7 +196,8 @@ module _ (s : Setup) (h : s .options .limit < 4294967296) (fin : Finished) where
         let e : suc n - 1 ≡ n = omega arith in
         let z : eqb (suc n) 0 ≡ false = ne-eqb (suc n) 0 (λ (p : suc n ≡ 0). suc-ne-zero n p) in
         rw (e, z)
-        (picks (put s fin) (finite x) _ _ _ _ (picks (put s fin) (a .x <ᶠ x && x <ᶠ k') _ _ _ _ refl refl) refl)
+        (by-cases₂ (Means s fin) (finite x)
+        (λ e. by-cases₂ (Means s fin) (a .x <ᶠ x && x <ᶠ k') (λ e. refl) (λ e. refl)) (λ e. refl))
 
   -- an answer to a trial, and to U3's step
   runs : isNan (s .level) ≡ false → (t : Trial) (asked : Asked) (f g : Float) → finite f ≡ true → finite g ≡ true
@@ -220,7 +225,7 @@ module _ (s : Setup) (h : s .options .limit < 4294967296) (real : isNan (s .leve
       → denoteStep (takenOf s n waiting f g) ≡ seen (respond (meaning s (Open waiting)) f g)
   unfolding takenOf respond denote denoteStep seen onceTold shown meaning
   answered n waiting f g =
-      picks-by denoteStep (answerFinite f g) _ _ _ _
+      by-cases₂ (λ t r. denoteStep t ≡ seen r) (answerFinite f g)
       (λ e. reacts waiting f g (and-first (finite f) (finite g) e) (and-second (finite f) (finite g) e)) (λ e. refl)
 
 -- every answer to every state

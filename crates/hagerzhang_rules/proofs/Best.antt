@@ -2,17 +2,13 @@
 -- shows (`best-is-one`). From the order of finite floats. Assumes nothing.
 use mathlib.Core.Path.{_≡_, refl}
 use mathlib.Core.Logic.{_⊎_, inl, inr}
-use mathlib.Core.Bool.{Bool, true, false, cond, _&&_, false≢true}
+use mathlib.Core.Bool.{Bool, true, false, cond, false≢true}
 use lib.Ieee.Scale.{finite}
 use Rattle.floats.specs.Arithmetic.{_≤ᶠ_}
+use Rattle.floats.proofs.Branches.{both}
 use Rattle.floats.proofs.Order.{finite→real, le-total, le-trans}
 use Rattle.hagerzhang_rules.specs.declared.Point.{Point}
 use Rattle.hagerzhang_rules.specs.Rules.{lowest, bestOver}
-
-both : (p q : Bool) → p ≡ true → q ≡ true → (p && q) ≡ true
-both true true e h = refl
-both true false e h = h
-both false q e h = e
 
 one-lowest : (a b c : Point) → finite (a .f) ≡ true → finite (b .f) ≡ true → finite (c .f) ≡ true
     → (lowest c a b ≡ true) ⊎ ((lowest b a c ≡ true) ⊎ (lowest a b c ≡ true))

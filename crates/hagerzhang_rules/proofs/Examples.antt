@@ -10,23 +10,20 @@ use Rattle.hagerzhang_rules.specs.declared.Point.{Point}
 use Rattle.hagerzhang_rules.specs.declared.Came.the-variants.{On}
 use Rattle.hagerzhang_rules.specs.Rules.{point, updateOf, narrowedOf}
 use Rattle.hagerzhang_rules.specs.Iterations.{standing, had}
-use Rattle.hagerzhang_rules.proofs.MarkedSums.{setup, a, ab}
-
-abbrev c : Point
-c = point (whole 2) (whole 3) (minus (whole 1))
+use Rattle.hagerzhang_rules.specs.MarkedSums.{setup, a, ab, ½, steep}
 
 abbrev first : Point
-first = point (whole 1) (quarters 2) (minus (whole 1))
+first = point (whole 1) ½ (minus (whole 1))
 
 abbrev second : Point
 second = point (quarters 6) (quarters 6) (minus (whole 1))
 
 -- newest first
 pub record InU3 : Type 0 where
-  pub began : standing (setup 2) ab (c ∷ []) ≡ some (On a (whole 2))
-  pub low-moved : standing (setup 2) ab (first ∷ c ∷ []) ≡ some (On first (whole 2))
-  pub high-moved : standing (setup 2) ab (second ∷ first ∷ c ∷ []) ≡ some (On first (quarters 6))
-  pub counted : had (setup 2) ab (second ∷ first ∷ c ∷ []) ≡ 2
+  pub began : standing (setup 2) ab (steep ∷ []) ≡ some (On a (whole 2))
+  pub low-moved : standing (setup 2) ab (first ∷ steep ∷ []) ≡ some (On first (whole 2))
+  pub high-moved : standing (setup 2) ab (second ∷ first ∷ steep ∷ []) ≡ some (On first (quarters 6))
+  pub counted : had (setup 2) ab (second ∷ first ∷ steep ∷ []) ≡ 2
 
 pub in-U3 : InU3
 unfolding standing had updateOf narrowedOf add sub mul div neg le lt eq ofBits ofInt

@@ -1,48 +1,85 @@
--- What a run of the rules does from one finished iteration to the next, said of each: `Arrives s P M n k asked r` says
--- that a search that reports k and has asked these points in the iteration under way, newest first, arrives at r, and
--- that wherever it goes from there each finished iteration meets P, each takes at most M answers, at most n more are
--- begun (the start among them), every step is asked and every ending comes for its reason, and an answer that is not
--- finite is refused (2) and the last. Once for the bracket, the origin of its ends, the bounds, the counts and the
--- refusals. Assumes nothing.
-use mathlib.Core.Path.{_≡_}
+-- What a search does, said of each step: `Stands s asked r` says that a search that has asked these points in the start
+-- or the iteration under way, newest first, stands at r, and that wherever it goes from there each finished iteration
+-- is 01's and leaves what demand 3 says, takes at most 3+3B answers, and is one of N; every report has finite numbers
+-- and its bracket in order; every step is asked and every ending comes for its reason; and an answer that is not finite
+-- is refused (2) and the last. Once for the bracket, the origin of its ends, the bounds, the counts and the refusals.
+-- Assumes nothing.
+use mathlib.Core.Path.{_≡_, refl, subst}
 use mathlib.Core.Bool.{true, false}
 use mathlib.Core.List.{List, [], _∷_}
-use Prim.Native.Nat.{ℕ, suc, _+_, _≤_, _<_}
+use Prim.Native.Nat.{_+_, _*_, _≤_, _<_}
+use native.Mathlib.Omega.{arith}
+use lib.Dec.{ltb}
 use lib.ListN.{length}
 use lib.Ieee.{Float}
 use lib.Ieee.Scale.{finite}
-use Rattle.runs.specs.Outcomes.{Ending, refusal, Why, answerNotFinite}
-use Rattle.runs.specs.Asking.{ask, Rest, endWith, reported}
+use borrow.Author.Tests.{lt-ltb, le-ltb}
+use Rattle.floats.proofs.Branches.{by-cases}
+use Rattle.runs.specs.Outcomes.{refusal, answerNotFinite}
+use Rattle.runs.specs.Asking.{ask, end, Rest, Ended, endWith, reported}
 use Rattle.hagerzhang_rules.specs.declared.Point.{Point}
 use Rattle.hagerzhang_rules.specs.declared.Setup.{Setup}
-use Rattle.hagerzhang_rules.specs.Rules.{point, answerFinite, Summary, Report, noneYet, last}
+use Rattle.hagerzhang_rules.specs.Rules.{point, answerFinite, Summary, Report, noneYet, last, iterationsIn}
+use Rattle.hagerzhang_rules.specs.Brackets.{Ordered}
+use Rattle.hagerzhang_rules.specs.Iterations.{progress, Whole, Brings, as-before, first, finished-one}
 use Rattle.hagerzhang_rules.specs.Iterations.{AskedBecause, EndedBecause, reportFinite}
+use Rattle.hagerzhang_rules.proofs.UnderWay.{since}
 
-pub data Arrives (s : Setup) (P : Summary → List Point → Summary → Type 0) (M : ℕ) : ℕ → Report → List Point → Rest Report
-    → Type 0 where
-  -- a step of the start is asked
-  starts : {n : ℕ} {asked : List Point} {x : Float} {then : Float → Float → Rest Report}
-      → length asked < 3
-      → 3 ≤ M
-      → finite x ≡ true
-      → ((f g : Float) → answerFinite f g ≡ false → then f g ≡ endWith noneYet (refusal (answerNotFinite f g)))
-      → ((f g : Float) → Arrives s P M (suc n) noneYet (point x f g ∷ asked) (then f g))
-      → Arrives s P M (suc n) noneYet asked (ask noneYet x then)
+-- ---- what is so of every report
+abbrev pub In-order : Report → Type 0
+In-order noneYet = Unit {0}
+In-order (last p) = Ordered (p .bracket)
+
+pub record Fine (s : Setup) (k : Report) : Type 0 where
+  pub numbers : reportFinite k ≡ true
+  pub in-order : In-order k
+  pub counted : iterationsIn k ≤ s .options .limit
+
+-- ---- a step x is asked where k is reported, after these points: in the start, or in an iteration that N allows
+pub data Asks (s : Setup) (asked : List Point) (x : Float) : Report → Type 0 where
+  in-start : length asked < 3 → finite x ≡ true → Asks s asked x noneYet
+  in-iteration : {p : Summary} → length asked < 3 + 3 * s .options .budget → p .iterations < s .options .limit
+      → AskedBecause s p asked x → Asks s asked x (last p)
+
+pub data Stands (s : Setup) : List Point → Rest Report → Type 0 where
+  awaiting : {k : Report} {asked : List Point} {x : Float} {then : Float → Float → Rest Report}
+      → Fine s k
+      → Asks s asked x k
+      → ((f g : Float) → answerFinite f g ≡ false → then f g ≡ endWith k (refusal (answerNotFinite f g)))
+      → ((f g : Float) → Brings (Whole s) (point x f g ∷ asked) k (reported (then f g)))
+      → ((f g : Float) → Stands s (since k (point x f g ∷ asked) (reported (then f g))) (then f g))
+      → Stands s asked (ask k x then)
+  ended : {asked : List Point} {o : Ended Report} → Fine s (o .keeps) → length asked ≤ 3 + 3 * s .options .budget
+      → EndedBecause s (o .keeps) asked (o .by) → Stands s asked (end o)
+
+-- ---- from the report k, with these points asked since, a search has come to r
+pub record Arrives (s : Setup) (k : Report) (asked : List Point) (r : Rest Report) : Type 0 where
+  pub brings : Brings (Whole s) asked k (reported r)
+  pub stands : Stands s (since k asked (reported r)) r
+
+pub no-further : (k : Report) → ltb (progress k) (progress k) ≡ false
+no-further k = le-ltb (progress k) (progress k) (omega arith)
+
+module _ {s : Setup} {asked : List Point} {r : Rest Report} where
+  -- the report is as it was
+  pub stays : {k : Report} → reported r ≡ k → Stands s asked r → Arrives s k asked r
+  stays {k} e a = record { brings = rw e as-before; stands = rw (e, no-further k) a }
+
   -- the start is answered
-  begins : {n : ℕ} {q : Summary} {asked : List Point} {r : Rest Report}
-      → length asked ≤ 3 → reported r ≡ last q → q .iterations ≡ 0 → reportFinite (last q) ≡ true
-      → Arrives s P M n (last q) [] r → Arrives s P M (suc n) noneYet asked r
-  -- the search ends within the start or an iteration, and what was reported stays
-  ended : {n : ℕ} {k : Report} {asked : List Point} {e : Ending Why} → EndedBecause s k asked e
-      → Arrives s P M n k asked (endWith k e)
-  -- a point is asked in the iteration under way
-  goes-on : {n : ℕ} {p : Summary} {asked : List Point} {x : Float} {then : Float → Float → Rest Report}
-      → length asked < M
-      → AskedBecause s p asked x
-      → ((f g : Float) → answerFinite f g ≡ false → then f g ≡ endWith (last p) (refusal (answerNotFinite f g)))
-      → ((f g : Float) → Arrives s P M (suc n) (last p) (point x f g ∷ asked) (then f g))
-      → Arrives s P M (suc n) (last p) asked (ask (last p) x then)
+  pub begins : {q : Summary} → reported r ≡ last q → q .iterations ≡ 0 → Stands s [] r → Arrives s noneYet asked r
+  begins {q} e i a =
+      record { brings = rw e (first i); stands = rw (e, lt-ltb 0 (progress (last q)) (omega arith)) a }
+
   -- the iteration is finished, and counted
-  finishes : {n : ℕ} {p q : Summary} {asked : List Point} {r : Rest Report}
-      → reported r ≡ last q → q .iterations ≡ p .iterations + 1 → reportFinite (last q) ≡ true → P p asked q
-      → Arrives s P M n (last q) [] r → Arrives s P M (suc n) (last p) asked r
+  pub finishes : {p q : Summary} → reported r ≡ last q → q .iterations ≡ p .iterations + 1 → Whole s p asked q
+      → Stands s [] r → Arrives s (last p) asked r
+  finishes {p} {q} e i f a = record {
+    brings = rw e (finished-one i f);
+    stands = rw (e, lt-ltb (progress (last p)) (progress (last q)) (omega arith)) a;
+  }
+
+-- where nothing was asked, it stands there
+pub none-asked : {s : Setup} {k : Report} {r : Rest Report} → Arrives s k [] r → Stands s [] r
+none-asked {s} {k} {r} a =
+    subst (λ (l : List Point). Stands s l r)
+    (by-cases (λ l. l ≡ []) (ltb (progress k) (progress (reported r))) (λ e. refl) (λ e. refl)) (a .stands)

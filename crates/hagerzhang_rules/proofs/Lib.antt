@@ -1,8 +1,9 @@
 pub mod MarkedSums
 pub mod Ranges
+pub mod Apart
 pub mod StaysBracket
-pub mod Iterations
 pub mod UnderWay
+pub mod Iterations
 pub mod EachIteration
 pub mod Along
 pub mod Bounds

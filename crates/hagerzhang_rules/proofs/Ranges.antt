@@ -14,81 +14,77 @@ use Rattle.floats.proofs.Branches.{and-first, and-second}
 use Rattle.refusals.proofs.Refusals.{Passed, and, all}
 use Rattle.hagerzhang_rules.specs.declared.Params.{Params}
 use Rattle.hagerzhang_rules.specs.declared.Options.{Options}
-use Rattle.hagerzhang_rules.specs.Parameters.{paramsFinite, suppliedFinite, deltaSigmaInRange, factorsInRange, boundsInRange, countsInRange, inRanges, epsilonK, levelOf, startRows}
+use Rattle.hagerzhang_rules.specs.Parameters.{paramsFinite, suppliedFinite, deltaSigmaInRange, factorsInRange}
+use Rattle.hagerzhang_rules.specs.Parameters.{boundsInRange, countsInRange, inRanges, epsilonK, levelOf}
+use Rattle.hagerzhang_rules.specs.Parameters.{startRows}
 
 -- ---- the rows
-supplied : (o : Options) (f0 s0 : Float) → Passed (startRows o f0 s0) → suppliedFinite o f0 s0 ≡ true
-supplied o f0 s0 (and two (and three (and four all))) = not-false _ two
-
-ranges : (o : Options) (f0 s0 : Float) → Passed (startRows o f0 s0) → inRanges o ≡ true
-ranges o f0 s0 (and two (and three (and four all))) = not-false _ three
-
-level : (o : Options) (f0 s0 : Float) → Passed (startRows o f0 s0) → finite (levelOf o f0) ≡ true
-level o f0 s0 (and two (and three (and four all))) =
-    and-second (finite (epsilonK o f0)) (finite (levelOf o f0)) (not-false _ four)
+rows : (o : Options) (f0 s0 : Float) → Passed (startRows o f0 s0)
+    → (suppliedFinite o f0 s0 ≡ true) × (inRanges o ≡ true) × (finite (levelOf o f0) ≡ true)
+rows o f0 s0 (and two (and three (and four all))) = (
+  not-false _ two,
+  not-false _ three,
+  and-second (finite (epsilonK o f0)) (finite (levelOf o f0)) (not-false _ four),
+)
 
 -- ---- what they say
+last-three : (before x y z : Bool) → (before && x && y && z) ≡ true → (x ≡ true) × (y ≡ true) × (z ≡ true)
+last-three before x y z e =
+    let two = and-first (before && x && y) z e in
+    let one = and-first (before && x) y two in
+    (and-second before x one, and-second (before && x) y two, and-second (before && x && y) z e)
+
 module _ (o : Options) (f0 s0 : Float) (ok : Passed (startRows o f0 s0)) where
   abbrev p : Params
   p = o .params
 
   pub level-finite : finite (levelOf o f0) ≡ true
-  level-finite = level o f0 s0 ok
+  level-finite = rows o f0 s0 ok .2
 
-  params : paramsFinite p ≡ true
-  params = and-first (paramsFinite p) (finite f0) (and-first (paramsFinite p && finite f0) (finite s0)
-      (supplied o f0 s0 ok))
-
-  -- those in front of the bounds and the start step
-  abbrev six : Bool
-  six =
-      finite (p .delta)
+  -- the bounds and the start step are the last of nine
+  steps-finite : (finite (p .min) ≡ true) × (finite (p .max) ≡ true) × (finite (p .start) ≡ true)
+  steps-finite =
+      let supplied = rows o f0 s0 ok .0 in
+      last-three
+      (finite (p .delta)
       && finite (p .sigma)
       && finite (p .epsilon)
       && finite (p .theta)
       && finite (p .gamma)
-      && finite (p .eta)
-
-  abbrev eight : Bool
-  eight = six && finite (p .min) && finite (p .max)
-
-  pub start-finite : finite (p .start) ≡ true
-  start-finite = and-second eight (finite (p .start)) params
-
-  pub max-finite : finite (p .max) ≡ true
-  max-finite = and-second (six && finite (p .min)) (finite (p .max)) (and-first eight (finite (p .start)) params)
+      && finite (p .eta))
+      (finite (p .min)) (finite (p .max)) (finite (p .start))
+      (and-first (paramsFinite p) (finite f0) (and-first (paramsFinite p && finite f0) (finite s0) supplied))
 
   pub min-finite : finite (p .min) ≡ true
-  min-finite =
-      and-second six (finite (p .min))
-      (and-first (six && finite (p .min)) (finite (p .max)) (and-first eight (finite (p .start)) params))
+  min-finite = steps-finite .0
 
-  counts : countsInRange o ≡ true
-  counts = and-second (deltaSigmaInRange p && factorsInRange p && boundsInRange p) (countsInRange o) (ranges o f0 s0 ok)
+  pub max-finite : finite (p .max) ≡ true
+  max-finite = steps-finite .1
 
-  pub budget-fits : o .budget ≤ 1000
-  budget-fits =
-      let m = o .budget in
-      let n = o .limit in
-      leb-true m 1000
-      (and-second (leb 1 m) (leb m 1000) (and-first (leb 1 m && leb m 1000) (leb 1 n && leb n 10000) counts))
+  pub start-finite : finite (p .start) ≡ true
+  start-finite = steps-finite .2
 
-  pub limit-fits : o .limit ≤ 10000
-  limit-fits =
-      let m = o .budget in
-      let n = o .limit in
-      leb-true n 10000
-      (and-second (leb 1 n) (leb n 10000) (and-second (leb 1 m && leb m 1000) (leb 1 n && leb n 10000) counts))
+  ranges : (factorsInRange p ≡ true) × (boundsInRange p ≡ true) × (countsInRange o ≡ true)
+  ranges = last-three (deltaSigmaInRange p) (factorsInRange p) (boundsInRange p) (countsInRange o) (rows o f0 s0 ok .1)
 
   pub low-below-high : (p .min <ᶠ p .max) ≡ true
-  low-below-high =
-      let w = deltaSigmaInRange p && factorsInRange p in
-      and-second (0ᶠ ≤ᶠ p .min) (p .min <ᶠ p .max)
-      (and-second w (boundsInRange p) (and-first (w && boundsInRange p) (countsInRange o) (ranges o f0 s0 ok)))
+  low-below-high = and-second (0ᶠ ≤ᶠ p .min) (p .min <ᶠ p .max) (ranges .1)
+
+  counts : (o .budget ≤ 1000) × (o .limit ≤ 10000)
+  counts =
+      let m = o .budget in
+      let n = o .limit in
+      let fits = ranges .2 in (
+        leb-true m 1000 (and-second (leb 1 m) _ (and-first (leb 1 m && leb m 1000) (leb 1 n && leb n 10000) fits)),
+        leb-true n 10000 (and-second (leb 1 n) _ (and-second (leb 1 m && leb m 1000) (leb 1 n && leb n 10000) fits)),
+      )
+
+  pub limit-fits : o .limit ≤ 10000
+  limit-fits = counts .1
 
   pub most-answers : 3 + o .limit * (3 + 3 * o .budget) ≤ 30030003
   most-answers =
-      let b = budget-fits in
+      let b = counts .0 in
       let one : o .limit * (3 + 3 * o .budget) ≤ 10000 * (3 + 3 * o .budget) =
       mul-le-mul-right (3 + 3 * o .budget) limit-fits in
       omega arith

@@ -14,10 +14,13 @@ abbrev pub noted : Rest Report → Reply → List Point → List Point
 noted (ask k x then) y asked = point x (y .0) (y .1) ∷ asked
 noted (end o) y asked = asked
 
--- an answer that brings the search further finishes what was under way, and the next iteration begins with nothing
--- asked
+-- an answer that brings the report further, from k to l, finishes what was under way, and the next iteration begins
+-- with nothing asked
+abbrev pub since : Report → List Point → Report → List Point
+since k asked l = cond (ltb (progress k) (progress l)) [] asked
+
 abbrev pub kept : Rest Report → Reply → List Point → List Point
-kept r y asked = cond (ltb (progress (reported r)) (progress (reported (respond r (y .0) (y .1))))) [] (noted r y asked)
+kept r y asked = since (reported r) (noted r y asked) (reported (respond r (y .0) (y .1)))
 
 -- those of the start or the iteration under way, after the answers
 unfoldable pub under-way : List Point → Rest Report → List Reply → List Point

@@ -9,8 +9,9 @@ use mathlib.Core.Option.{Option, some, none}
 use lib.ListN.{length}
 use lib.Ieee.{Float}
 use lib.Ieee.Scale.{finite}
-use Rattle.floats.specs.Arithmetic.{_<ᶠ_, _≤ᶠ_, _≥ᶠ_, 0ᶠ}
-use Rattle.runs.specs.Outcomes.{Ending, stop, limit, refusal, Why, answerNotFinite, stepNotFinite, budgetSpent, stepNotBetween, alreadyOver, verdictWord}
+use Rattle.floats.specs.Arithmetic.{_<ᶠ_}
+use Rattle.runs.specs.Outcomes.{Ending, stop, limit, refusal, Why, answerNotFinite, stepNotFinite, budgetSpent}
+use Rattle.runs.specs.Outcomes.{stepNotBetween, alreadyOver, verdictWord}
 use Rattle.runs.specs.declared.Verdict.{Verdict}
 use Rattle.runs.specs.Asking.{Run, ask, end}
 use Rattle.hagerzhang_rules.specs.declared.Point.{Point}
@@ -19,25 +20,9 @@ use Rattle.hagerzhang_rules.specs.declared.Setup.{Setup}
 use Rattle.hagerzhang_rules.specs.declared.Came.{Came}
 use Rattle.hagerzhang_rules.specs.declared.Came.the-variants.{To, On}
 use Rattle.hagerzhang_rules.specs.declared.Judged.the-variants.{Holds, Fails}
-use Rattle.hagerzhang_rules.specs.Rules.{point, answerFinite, updateOf, middleOf, narrowedOf, judgeOf, iteration, Summary, Report, noneYet, last}
-
--- ---- demand 3's three facts, and where a bracket lies
-
--- "low slope < 0, low cost <= L (initial cost + epsilon_k, as computed) and high slope >= 0"
-pub record Premise (L : Float) (a b : Point) : Type 0 where
-  pub low-falls : a .g <ᶠ 0ᶠ ≡ true
-  pub low-cost : a .f ≤ᶠ L ≡ true
-  pub high-rises : b .g ≥ᶠ 0ᶠ ≡ true
-
--- "the bracket meets the same three, low step < high step"
-pub record Bracketed (L : Float) (w : Bracket) : Type 0 where
-  pub three : Premise L (w .a) (w .b)
-  pub in-order : w .a .x <ᶠ w .b .x ≡ true
-
--- "it lies within the former bracket"
-pub record Within (w u : Bracket) : Type 0 where
-  pub low-within : w .a .x ≤ᶠ u .a .x ≡ true
-  pub high-within : u .b .x ≤ᶠ w .b .x ≡ true
+use Rattle.hagerzhang_rules.specs.Brackets.{premise, Ordered, Within}
+use Rattle.hagerzhang_rules.specs.Rules.{point, answerFinite, updateOf, middleOf, narrowedOf, judgeOf, iteration}
+use Rattle.hagerzhang_rules.specs.Rules.{Summary, Report, noneYet, last}
 
 -- ---- what is asked in an iteration
 
@@ -74,6 +59,12 @@ pub data Came-from (w : Bracket) (asked : List Point) (p : Point) : Type 0 where
 pub record Whole (s : Setup) (p : Summary) (asked : List Point) (q : Summary) : Type 0 where
   -- its answers, and no others, lead 01's iteration on the former bracket to the new one
   pub whole : Plays (alone s (last p) (p .bracket)) asked (end (inr (q .bracket)))
+  -- "the bracket meets the same three": where the former one does
+  pub stays : premise (s .level) (p .bracket .a) (p .bracket .b) ≡ true
+      → premise (s .level) (q .bracket .a) (q .bracket .b) ≡ true
+  -- "low step < high step, and it lies within the former bracket": whatever the slopes are
+  pub ordered : Ordered (q .bracket)
+  pub narrows : Within (p .bracket) (q .bracket)
   pub low-from : Came-from (p .bracket) asked (q .bracket .a)
   pub high-from : Came-from (p .bracket) asked (q .bracket .b)
   -- "an iteration takes at most 3+3B answers"

@@ -1,3 +1,5 @@
 pub mod Parameters
 pub mod Rules
+pub mod MarkedSums
+pub mod Brackets
 pub mod Iterations

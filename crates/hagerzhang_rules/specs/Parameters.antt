@@ -1,5 +1,6 @@
 -- 01, "Parameters", and of "Numbers in, numbers refused" B and N; epsilon_k and L; and the refusals of a start, in 01's
 -- order.
+use Prim.Native.Nat.{ℕ}
 use mathlib.Core.Bool.{Bool, not, _&&_}
 use mathlib.Core.List.{List, [], _∷_}
 use lib.Dec.{leb}
@@ -29,6 +30,24 @@ defaultOptions = record {
   };
   budget = 100;
   limit = 100;
+}
+
+-- with another epsilon, other bounds, another start step, B and N: what a job can say
+abbrev pub optionsWith : Float → Float → Float → Float → ℕ → ℕ → Options
+optionsWith epsilon min max start B N = record {
+  params = record {
+    delta = defaultOptions .params .delta;
+    sigma = defaultOptions .params .sigma;
+    epsilon = epsilon;
+    theta = defaultOptions .params .theta;
+    gamma = defaultOptions .params .gamma;
+    eta = defaultOptions .params .eta;
+    min = min;
+    max = max;
+    start = start;
+  };
+  budget = B;
+  limit = N;
 }
 
 -- ---- refusal 2: "a supplied number is NaN or infinite"

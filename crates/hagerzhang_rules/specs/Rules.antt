@@ -2,8 +2,8 @@
 -- and answers. A point is (x, f, g): step, cost and slope. A bracket is (a, b). L is the setup's level. The types are
 -- declared in src/lib.rt, with their cases: what an answer comes to is `To` a bracket, or `On` in U3 with its ends h
 -- and k; a further trial is `At` a step, or there is `Nothing`; a verdict `Holds`, or it `Fails`. The marked sums M1 to
--- M12 are proved of this text (proofs/MarkedSums.antt). specs/Iterations.antt has the words for what is proved of it
--- along any answers.
+-- M12 are said of this text in specs/MarkedSums.antt. specs/Brackets.antt and specs/Iterations.antt have the words for
+-- what is proved of it along any answers.
 use Prim.Native.Nat.{ℕ, zero, suc, _+_}
 use mathlib.Core.Bool.{Bool, cond, _&&_, _||_}
 use mathlib.Core.Option.{Option, some, none}
@@ -188,7 +188,7 @@ pub record Summary : Type 0 where
   pub iterations : ℕ
 
 -- with `noneYet` no iteration is finished either. Evaluations are not reported here: they are counted over all
--- answers, by `tallied` of outcomes/specs/Asking.antt
+-- answers, by `tallied` of runs/specs/Asking.antt
 pub data Report : Type 0 where
   noneYet : Report
   last : Summary → Report
@@ -224,8 +224,8 @@ module _ (s : Setup) where
       let kept = reportOf w start i in
       verdict w start i (iteration s (keeping kept) kept w λ v. rounds n v start (i + 1))
 
-  -- "Start: ask a = min, b = max, c = start step, in that order." Written from its end: `hagerZhang` asks min and goes on
-  -- with `askHigh`, that asks max and goes on with `askStart`, and that asks the start step and goes on with the
+  -- "Start: ask a = min, b = max, c = start step, in that order." Written from its end: `hagerZhang` asks min and goes
+  -- on with `askHigh`, that asks max and goes on with `askStart`, and that asks the start step and goes on with the
   -- verdict on (a, b). Nothing is reported yet.
   unfoldable pub askStart : Bracket → Rest Report
   askStart w = asking s (keeping noneYet) noneYet (s .options .params .start) λ c. rounds (s .options .limit) w c 0

@@ -1,6 +1,5 @@
 // The words of Hager-Zhang's rules: points, brackets, parameters, and what a rule decides. No function stands here:
-// specs/ is 01's text, proofs/ has the theorems about that text alone; crates/parameters, bracketing and verdicts
-// decide each rule.
+// specs/ is 01's text, proofs/ has the theorems about that text alone; crates/hagerzhang_decisions decides each rule.
 
 use runs::Verdict;
 

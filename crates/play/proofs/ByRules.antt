@@ -2,14 +2,16 @@
 -- over (`chunks-told`), and it is over after as many turns as there is to tell (`over-in-time`). Of the setup only: its
 -- limit is a u32, and its L is no NaN (`Fits`).
 use mathlib.Core.Path.{_≡_, refl, sym, ap, _∙_, subst}
-use mathlib.Core.Bool.{Bool, true, false, cond}
+use mathlib.Core.Bool.{false, cond}
 use mathlib.Core.List.{List, [], _∷_, _++_, append-assoc}
 use Prim.Native.Nat.{ℕ, zero, suc, _+_, _≤_, _<_}
 use native.Mathlib.Omega.{arith}
 use lib.ListN.{length}
 use lib.Ieee.{Float, isNan}
+use Rattle.floats.proofs.Branches.{by-cases}
 use Rattle.runs.specs.Outcomes.{asks, ends, numbered, told}
 use Rattle.runs.specs.Asking.{Rest, Ended, ask, end, respond, shown, reported, onceTold}
+use Rattle.runs.proofs.Apart.{asks-not-ends, asks-not-over}
 use Rattle.runs.proofs.Machines.{adds-one}
 use Rattle.runs.proofs.Ends.{EndsWithin, at-ask}
 use Rattle.runs.proofs.Determined.{told-determined}
@@ -40,7 +42,7 @@ counts-on : (b : Search) (f g : Float) (stage : Stage) (k : Report) (x : Float) 
 unfolding meaning
 counts-on b f g (Open waiting) k x then e h =
     let z = adds-one (answerFinite f g) (b .evaluations .0) 0 _ h (one-more-if-finite b f g waiting) in omega arith
-counts-on b f g (OverStage kept) k x then e h = let z : _≡_ {A = ℕ} 0 1 = cc in absurd (omega arith)
+counts-on b f g (OverStage kept) k x then e h = absurd (asks-not-over k x then _ (sym e))
 
 -- ---- texts one after the other
 no-text : textOf [] ≡ []
@@ -108,10 +110,6 @@ module _ (s : Setup) (fits : Fits s) (c : Curve) where
       abbrev e' : ℕ
       e' = e + cond (answerFinite f g) 1 0
 
-      at-most-one : (a : Bool) → e + cond a 1 0 + m < 4294967295
-      at-most-one true = let h = at .few in omega arith
-      at-most-one false = let h = at .few in omega arith
-
       responds : respond (meant (t .search)) f g ≡ then f g
       unfolding respond
       responds = rw is-run
@@ -128,7 +126,7 @@ module _ (s : Setup) (fits : Fits s) (c : Curve) where
             leaves = z .leaves ∙ ap onceTold responds;
             counts = counted ∙ ap (λ (i : ℕ). i + cond (answerFinite f g) 1 0) n;
             within = more f g;
-            few = at-most-one (answerFinite f g);
+            few = by-cases (λ i. e + i + m < 4294967295) (answerFinite f g) (λ b. omega arith) (λ b. omega arith);
           }
 
       goes-on : answeredOf c t ≡ Pending t'
@@ -150,7 +148,7 @@ module _ (s : Setup) (fits : Fits s) (c : Curve) where
     module _ (o : Ended Report) (at : Stands e m t (end o)) where
       stops-at : (q : Outcome) → told q ≡ ends (numbered (o .by)) → answeredBy c (t .search) q ≡ Done
       unfolding answeredBy
-      stops-at (Ask x) h = let z : _≡_ {A = ℕ} 0 1 = cc in absurd (omega arith)
+      stops-at (Ask x) h = absurd (asks-not-ends x (numbered (o .by)) (sym h))
       stops-at (Stop v x) h = refl
       stops-at (Limit x) h = refl
       stops-at (Refused n) h = refl
@@ -175,7 +173,8 @@ module _ (s : Setup) (fits : Fits s) (c : Curve) where
         matches = subst (λ (p : Played). Matches p []) (sym (stops-at (t .outcome) is-told)) at-over;
       }
 
-  turn : (e m : ℕ) (t : Turn) (r : Rest Report) → EndsWithin answerFinite m r → Stands e m t r → Told-on t (telling c e r)
+  turn : (e m : ℕ) (t : Turn) (r : Rest Report) → EndsWithin answerFinite m r → Stands e m t r
+      → Told-on t (telling c e r)
   turn e m t (end o) w at = end-turn e m t o at
   turn e (suc m) t (ask k x then) (at-ask only more) at = asks-turn e m t k x then at more
 
@@ -201,9 +200,8 @@ module _ (s : Setup) (fits : Fits s) (c : Curve) where
         matches = more .matches;
       }
 
-  nothing-left : (p : Played) (l : List Said) → Matches p l → p ≡ Done → l ≡ []
-  nothing-left Done [] at-over e = refl
-  nothing-left (Pending t) l h e = let z : _≡_ {A = ℕ} 0 1 = cc in absurd (omega arith)
+  nothing-left : (l : List Said) → Matches Done l → l ≡ []
+  nothing-left [] at-over = refl
 
   -- it is over after as many turns as there is to tell
   pub over-in-time : (n : ℕ) (p : Played) (l : List Said) → Matches p l → length l ≤ n → leftAfter n c p ≡ Done
@@ -223,7 +221,7 @@ module _ (s : Setup) (fits : Fits s) (c : Curve) where
   pub chunks-told : (n k : ℕ) (p : Played) (l : List Said) → Matches p l → leftAfterChunks c n k p ≡ Done
       → chunks c n k p ≡ textOf l
   unfolding chunks leftAfterChunks
-  chunks-told n zero p l h e = sym (ap textOf (nothing-left p l h e) ∙ no-text)
+  chunks-told n zero p l h e = sym (ap textOf (nothing-left l (rw e at h)) ∙ no-text)
   chunks-told n (suc k) p l h e =
       let g = plays n p l h in
       ap (λ (t : List ℕ). textOf (saidIn n c p) ++ t) (chunks-told n k (leftAfter n c p) (g .others) (g .matches) e)

@@ -17,7 +17,7 @@ use Rattle.hagerzhang_rules.specs.declared.Options.{Options}
 use Rattle.hagerzhang_rules.specs.declared.Setup.{Setup}
 use Rattle.hagerzhang_rules.specs.Parameters.{setupOf, startRows}
 use Rattle.hagerzhang_rules.specs.Rules.{answerFinite, Report, hagerZhang}
-use Rattle.hagerzhang_rules.proofs.Ranges.{level-finite, min-finite, max-finite, start-finite, limit-fits, most-answers}
+use Rattle.hagerzhang_rules.proofs.Ranges.{level-finite, limit-fits, most-answers}
 use Rattle.hagerzhang_rules.proofs.Bounds.{search-within}
 use Rattle.curves.specs.declared.Curve.{Curve}
 use Rattle.hagerzhang.specs.declared.state.Turn.{Turn}
@@ -54,9 +54,7 @@ module _ (o : Options) (f0 s0 : Float) (ok : Passed (startRows o f0 s0)) where
 
   ends-in-time : EndsWithin answerFinite most (hagerZhang s)
   unfolding most
-  ends-in-time =
-      search-within s (level-finite o f0 s0 ok) (min-finite o f0 s0 ok) (max-finite o f0 s0 ok)
-      (start-finite o f0 s0 ok)
+  ends-in-time = search-within o f0 s0 ok
 
   stands-first : (c : Curve) → Stands s start-fits c 0 most (freshOf s) (hagerZhang s)
   stands-first c = record {

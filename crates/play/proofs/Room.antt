@@ -1,18 +1,18 @@
 -- Nothing is cut off: 512 turns write at most 99 bytes each, and a buffer of 65,536 bytes has room for all of them, so
 -- that its front is then their text (`whole-lines`). Assumes nothing.
 use mathlib.Core.Path.{_≡_, sym, ap, _∙_, subst}
-use mathlib.Core.Bool.{Bool, true, false, cond}
 use mathlib.Core.List.{List, [], _∷_, _++_, append-nil}
-use Prim.Native.Nat.{ℕ, zero, suc, _+_, _*_, _/_, _%_, _≤_}
+use Prim.Native.Nat.{ℕ, zero, suc, _+_, _*_, _/_, _≤_}
 use native.Mathlib.Omega.{arith}
 use lib.Dec.{ltb}
 use lib.ListN.{length, take, set, length-set, length-append}
 use lib.Seq.{take-suc-set, append-snoc}
 use native.Mathlib.Numerals.{add-one}
 use borrow.Author.Tests.{lt-ltb}
+use Rattle.floats.proofs.Branches.{by-cases}
 use Rattle.runs.specs.Outcomes.{Word, met, wolfe, approximate, stop, limit, refusal, Told, asks, ends}
 use Rattle.curves.specs.declared.Curve.{Curve}
-use Rattle.text.specs.Text.{Page, page, put, write, Writes, digit, decimalUpTo}
+use Rattle.text.specs.Text.{Page, page, put, write, Writes, decimalUpTo}
 use Rattle.lines.specs.Lines.{verdictText, outcomeLine}
 use Rattle.play.specs.declared.Played.{Played}
 use Rattle.play.specs.declared.Played.the-variants.{Pending, Done}
@@ -23,12 +23,9 @@ use Rattle.play.specs.Playing.{answeredOf, saidIn}
 short-decimal : (k n : ℕ) → length (decimalUpTo k n) ≤ k
 unfolding decimalUpTo
 short-decimal zero n = omega arith
-short-decimal (suc k) n = by-test (ltb n 10) (short-decimal k (n / 10))
-  where
-    by-test : (b : Bool) → length (decimalUpTo k (n / 10)) ≤ k
-        → length (cond b (digit n ∷ []) (decimalUpTo k (n / 10) ++ digit (n % 10) ∷ [])) ≤ suc k
-    by-test true h = omega arith
-    by-test false h = simp length-append (omega arith)
+short-decimal (suc k) n =
+    let h = short-decimal k (n / 10) in
+    by-cases (λ (l : List ℕ). length l ≤ suc k) (ltb n 10) (λ e. omega arith) (λ e. simp length-append (omega arith))
 
 short-verdict : (w : Word) → length (verdictText w) ≤ 11
 short-verdict met = omega arith

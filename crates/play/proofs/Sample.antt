@@ -12,8 +12,9 @@ use Rattle.runs.specs.Outcomes.{wolfe, stop, Told, asks, ends}
 use Rattle.runs.specs.Asking.{Rest, keeping, question}
 use Rattle.refusals.proofs.Refusals.{Passed, and, all, value-given}
 use Rattle.hagerzhang_rules.specs.declared.Point.{Point}
-use Rattle.hagerzhang_rules.specs.Parameters.{defaultOptions}
-use Rattle.hagerzhang_rules.specs.Rules.{point, bracket, answerFinite, Report, noneYet, iterationsIn, bestOver, judgeOf, decided, verdict, rounds, askStart, askHigh, hagerZhang}
+use Rattle.hagerzhang_rules.specs.Parameters.{defaultOptions, optionsWith}
+use Rattle.hagerzhang_rules.specs.Rules.{point, bracket, answerFinite, Report, noneYet, iterationsIn, bestOver, judgeOf}
+use Rattle.hagerzhang_rules.specs.Rules.{decided, verdict, rounds, askStart, askHigh, hagerZhang}
 use Rattle.curves.specs.declared.Curve.{Curve}
 use Rattle.curves.specs.Curves.{table, valueOf, slopeOf}
 use Rattle.text.specs.Text.{bytes}
@@ -54,23 +55,9 @@ abbrev four : Float
 four = ofBits binary64 0x4010_0000_0000_0000
 
 abbrev j : Job
-j = record {
+j = let q = defaultOptions .params in record {
   curve = 1;
-  options = record {
-    params = record {
-      delta = defaultOptions .params .delta;
-      sigma = defaultOptions .params .sigma;
-      epsilon = defaultOptions .params .epsilon;
-      theta = defaultOptions .params .theta;
-      gamma = defaultOptions .params .gamma;
-      eta = defaultOptions .params .eta;
-      min = zero;
-      max = four;
-      start = defaultOptions .params .start;
-    };
-    budget = defaultOptions .budget;
-    limit = defaultOptions .limit;
-  };
+  options = optionsWith (q .epsilon) zero four (q .start) (defaultOptions .budget) (defaultOptions .limit);
 }
 
 says : meansOf (curve ∷ bounds ∷ []) ≡ value j

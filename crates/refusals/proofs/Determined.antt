@@ -4,7 +4,8 @@ use mathlib.Core.Bool.{cond}
 use Prim.Native.Nat.{ℕ}
 use lib.Dec.{eqb}
 use Rattle.refusals.specs.declared.Refusal.{Refusal}
-use Rattle.refusals.specs.declared.Refusal.the-variants.{SuppliedNotFinite, OutOfRange, ResultNotFinite, StepNotFinite, BudgetSpent, StepNotBetween, AlreadyOver}
+use Rattle.refusals.specs.declared.Refusal.the-variants.{SuppliedNotFinite, OutOfRange, ResultNotFinite}
+use Rattle.refusals.specs.declared.Refusal.the-variants.{StepNotFinite, BudgetSpent, StepNotBetween, AlreadyOver}
 use Rattle.refusals.specs.Refusals.{numberOf}
 
 pub withNumber : ℕ → Refusal

@@ -2,12 +2,12 @@
 -- for every table. Assumes nothing.
 use Prim.Native.Nat.{ℕ}
 use mathlib.Core.Path.{_≡_, refl, sym, ap, _∙_}
-use mathlib.Core.Bool.{Bool, true, false, cond}
+use mathlib.Core.Bool.{Bool, true, false}
 use mathlib.Core.List.{List, [], _∷_}
 use mathlib.Core.Option.{some, Option·none-ne-some, Option·some-injective}
 use Rattle.refusals.specs.Results.{Result, value, refused, Row, refuse_else_}
 use Rattle.refusals.specs.Refusals.{given, refusedBy}
-use Rattle.floats.proofs.Branches.{by-test}
+use Rattle.floats.proofs.Branches.{by-cases, by-cases₂}
 
 -- n's row is the first whose condition holds
 pub data First (n : ℕ) : List Row → Type 0 where
@@ -20,16 +20,13 @@ unfolding given
 first-given (this e c) = rw (c, e)
 first-given (later c f) = rw c (first-given f)
 
-by-row : (n m : ℕ) (c : Bool) (rows : List Row) → (given rows ≡ some n → First n rows) → (b : Bool) → c ≡ b
-    → cond b (some m) (given rows) ≡ some n → First n ((m, c) ∷ rows)
-by-row n m c rows go true t e = this (Option·some-injective m n e) t
-by-row n m c rows go false t e = later t (go e)
-
 -- and the number is given only then
 pub given-first : (n : ℕ) (rows : List Row) → given rows ≡ some n → First n rows
 unfolding given
-given-first n [] e = absurd (Option·none-ne-some n e)
-given-first n (r ∷ rows) e = by-row n (r .0) (r .1) rows (given-first n rows) (r .1) refl e
+given-first n [] = λ e. absurd (Option·none-ne-some n e)
+given-first n (r ∷ rows) =
+    by-cases (λ o. o ≡ some n → First n (r ∷ rows)) (r .1) (λ t e. this (Option·some-injective (r .0) n e) t)
+    (λ t e. later t (given-first n rows e))
 
 -- ---- a result by a table
 module _ {A : Type 0} where
@@ -37,7 +34,7 @@ module _ {A : Type 0} where
   pub by-rows : (rows : List Row) (a : A) → refusedBy (refuse rows else a) ≡ given rows
   unfolding given
   by-rows [] a = refl
-  by-rows (r ∷ rows) a = by-test refusedBy (r .1) _ _ (some (r .0)) (given rows) refl (by-rows rows a)
+  by-rows (r ∷ rows) a = by-cases₂ (λ (q : Result A) o. refusedBy q ≡ o) (r .1) (λ t. refl) (λ t. by-rows rows a)
 
 -- no row holds
 pub data Passed : List Row → Type 0 where
@@ -51,15 +48,12 @@ module _ {A : Type 0} where
   same-value : (a b : A) → value a ≡ value b → a ≡ b
   same-value a b e = cc
 
-  by-row-passed : (r : Row) (rows : List Row) (a b : A) → ((refuse rows else a) ≡ value b → Passed rows × (a ≡ b))
-      → (c : Bool) → r .1 ≡ c → cond c (refused (r .0)) (refuse rows else a) ≡ value b → Passed (r ∷ rows) × (a ≡ b)
-  by-row-passed r rows a b go true t e = absurd (not-refused (r .0) b e)
-  by-row-passed r rows a b go false t e = let p = go e in (and t (p .0), p .1)
-
   -- where there is a value, no row held, and it is the one behind the rows
   pub passed : (rows : List Row) (a b : A) → (refuse rows else a) ≡ value b → Passed rows × (a ≡ b)
-  passed [] a b e = (all, same-value a b e)
-  passed (r ∷ rows) a b e = by-row-passed r rows a b (passed rows a b) (r .1) refl e
+  passed [] a b = λ e. (all, same-value a b e)
+  passed (r ∷ rows) a b =
+      by-cases (λ q. q ≡ value b → Passed (r ∷ rows) × (a ≡ b)) (r .1) (λ t e. absurd (not-refused (r .0) b e))
+      (λ t e. let p = passed rows a b e in (and t (p .0), p .1))
 
   -- and where no row holds, it is
   pub value-given : (rows : List Row) (a : A) → Passed rows → (refuse rows else a) ≡ value a
@@ -73,9 +67,5 @@ module _ {A : Type 0} where
 pub alike : {A B T : Type 0} (h : Result A → T) (k : Result B → T) → ((n : ℕ) → h (refused n) ≡ k (refused n))
     → (a : A) (b : B) → h (value a) ≡ k (value b) → (rows : List Row) → h (refuse rows else a) ≡ k (refuse rows else b)
 alike h k same a b e [] = e
-alike h k same a b e (r ∷ rows) = by (r .1) (alike h k same a b e rows)
-  where
-    by : (c : Bool) → h (refuse rows else a) ≡ k (refuse rows else b)
-        → h (cond c (refused (r .0)) (refuse rows else a)) ≡ k (cond c (refused (r .0)) (refuse rows else b))
-    by true p = same (r .0)
-    by false p = p
+alike h k same a b e (r ∷ rows) =
+    by-cases₂ (λ p q. h p ≡ k q) (r .1) (λ t. same (r .0)) (λ t. alike h k same a b e rows)

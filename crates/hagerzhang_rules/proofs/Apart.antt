@@ -1,0 +1,16 @@
+-- The cases of a report, and of what an answer comes to, are apart. Assumes nothing.
+use mathlib.Core.Path.{_≡_}
+use mathlib.Core.Option.{some}
+use Prim.Native.Nat.{ℕ}
+use native.Mathlib.Omega.{arith}
+use lib.Ieee.{Float}
+use Rattle.hagerzhang_rules.specs.declared.Point.{Point}
+use Rattle.hagerzhang_rules.specs.declared.Bracket.{Bracket}
+use Rattle.hagerzhang_rules.specs.declared.Came.the-variants.{To, On}
+use Rattle.hagerzhang_rules.specs.Rules.{Summary, noneYet, last}
+
+pub none-not-last : (p : Summary) → noneYet ≡ last p → ⊥
+none-not-last p e = let z : _≡_ {A = ℕ} 0 1 = cc in omega arith
+
+pub to-not-on : (u : Bracket) (h : Point) (k : Float) → some (To u) ≡ some (On h k) → ⊥
+to-not-on u h k e = let z : _≡_ {A = ℕ} 0 1 = cc in omega arith
