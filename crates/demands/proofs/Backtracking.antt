@@ -37,7 +37,7 @@ use Rattle.demands.specs.Backtracking.{machine, Searches, BacktrackingDe
 use Rattle.demands.proofs.Trials.{supplied, ranges, limit-fits, alpha-finite, trials-rest, trials-end}
 use Rattle.demands.proofs.Trials.{NotFive, other-number, not-five, five-untold}
 use Rattle.demands.proofs.Tried.{by-tests, answered}
-use Rattle.demands.proofs.EmptyPrograms.{empty-shut-out, second-ask}
+use Rattle.demands.proofs.EmptyPrograms.{first-shut-out, empty-shut-out, second-ask}
 
 -- ---- any state: the rules report what it counts, and are over where it is
 reports : (s : Setup) (i : ℕ) (stage : Stage) → reported (meaning s i stage) ≡ i
@@ -179,6 +179,7 @@ unfolding inOrder
 backtracking-demands = record {
   start = λ o f0 s0 r said. record { exactly = ap refusedBy said ∙ by-rows (startRows o f0 s0) _; ordered = refl };
   answer = answered;
+  first-shut-out = first-shut-out;
   empty-shut-out = empty-shut-out;
   second-ask = second-ask;
   search-given = searches;
