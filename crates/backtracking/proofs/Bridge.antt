@@ -9,11 +9,12 @@ use lib.Ieee.{Float}
 use lib.Ieee.Scale.{finite}
 use borrow.Author.Tests.{le-leb, lt-leb}
 use Rattle.floats.specs.Arithmetic.{_⊗_}
+use Rattle.floats.proofs.Branches.{by-cases₂}
 use Rattle.refusals.specs.Results.{Result, value, refused}
 use Rattle.runs.specs.Outcomes.{met, stop, limit, refusal, Told, asks, ends, told, answerNotFinite, stepNotFinite}
 use Rattle.runs.specs.Asking.{Rest, ask, endWith, respond, shown, onceTold, firstOf}
 use Rattle.runs.specs.Counters.{oneMore, iterations}
-use Rattle.runs.proofs.Machines.{Seen, seen, picks, counts-on}
+use Rattle.runs.proofs.Machines.{Seen, seen, counts-on}
 use Rattle.refusals.proofs.Refusals.{alike}
 use Rattle.runs.specs.declared.Evaluations.{Evaluations}
 use Rattle.runs.specs.declared.Iterations.{Iterations}
@@ -38,6 +39,9 @@ use Rattle.backtracking.specs.Meaning.{meaning, meant, begun, Starts, Fo
 
 abbrev denote : Turn → Seen ℕ
 denote t = (meant (t .search), told (t .outcome))
+
+abbrev Means : Turn → Rest ℕ → Type 0
+Means t r = denote t ≡ seen r
 
 -- a trial is a question at its step
 pub question-at : (s : Setup) (k before now : ℕ) (t : Float)
@@ -86,9 +90,8 @@ module _ (s : Setup) (fits : s .options .limit < 4294967296) (m : Evaluations) (
       let c : oneMore (now .0) ≡ now .0 + 1 = counts-on (now .0) (s .options .limit) fits (omega arith) in
       let d : s .options .limit - (now .0 + 1) ≡ k = omega arith in
       rw (lt-leb (s .options .limit) (now .0) (omega arith))
-      (picks denote (finite next-step) _ _ _ _
-      (rw (c, d) (sym (asked s k (now .0) (now .0 + 1) next-step)))
-      ended)
+      (by-cases₂ Means (finite next-step) (λ f. rw (c, d) (sym (asked s k (now .0) (now .0 + 1) next-step)))
+      (λ f. ended))
 
   meets : denote (madeOf s m now Over (Stop Met t)) ≡ seen (endWith (now .0) (stop met t))
   unfolding seen onceTold shown meaning
@@ -102,20 +105,21 @@ module _ (s : Setup) (fits : s .options .limit < 4294967296) (m : Evaluations) (
 
   -- one trial
   tests : (n : Evaluations) (before : Iterations) (f g : Float) (k : ℕ) → s .options .limit - now .0 ≡ k
-      → denote
+      → Means
       (cond (answerFinite (s .options .condition) f g)
       (cond (holdsOf (s .options .condition) (s .f0) (s .s0) t f g) (madeOf s m now Over (Stop Met t)) further-step)
       (madeOf s n before Over (Refused SuppliedNotFinite)))
-      ≡ seen (respond (trials s k (before .0) (now .0) t) f g)
+      (respond (trials s k (before .0) (now .0) t) f g)
   unfolding further trials respond
   tests n before f g zero e =
-      picks denote (answerFinite (s .options .condition) f g) _ _ _ _
-      (picks denote (holdsOf (s .options .condition) (s .f0) (s .s0) t f g) _ _ _ _ meets (goes-on zero e))
-      (refuses n before f g)
+      by-cases₂ Means (answerFinite (s .options .condition) f g)
+      (λ a. by-cases₂ Means (holdsOf (s .options .condition) (s .f0) (s .s0) t f g) (λ h. meets) (λ h. goes-on zero e))
+      (λ a. refuses n before f g)
   tests n before f g (suc k) e =
-      picks denote (answerFinite (s .options .condition) f g) _ _ _ _
-      (picks denote (holdsOf (s .options .condition) (s .f0) (s .s0) t f g) _ _ _ _ meets (goes-on (suc k) e))
-      (refuses n before f g)
+      by-cases₂ Means (answerFinite (s .options .condition) f g)
+      (λ a. by-cases₂ Means (holdsOf (s .options .condition) (s .f0) (s .s0) t f g) (λ h. meets)
+      (λ h. goes-on (suc k) e))
+      (λ a. refuses n before f g)
 
 answers-by : (s : Backtracking) → s .setup .options .limit < 4294967296 → (f g : Float) (stage : Stage)
     → s .stage ≡ stage

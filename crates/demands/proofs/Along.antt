@@ -1,5 +1,5 @@
--- Hager-Zhang's machine along any answers is the rules' search, for a start that no row refuses (`tied`): what it tells,
--- holds and awaits, what was asked in the iteration under way, and what is counted. From one answer
+-- Hager-Zhang's machine along any answers is the rules' search, for a start that no row refuses (`tied`): what it
+-- tells, holds and awaits, what was asked in the iteration under way, and what is counted. From one answer
 -- (hagerzhang/proofs/Bridge.antt) to any list (runs/proofs/Tied.antt). Assumes nothing.
 use mathlib.Core.Path.{_≡_, refl, sym, ap, ap₂, _∙_}
 use mathlib.Core.Bool.{cond}

@@ -2,33 +2,27 @@
 -- and its count of iterations are those of 01's rules; it is over after 1 + N answers; its evaluations are the finite
 -- answers accepted; and 5 never comes. Assumes nothing.
 use mathlib.Core.Path.{_≡_, refl, sym, ap, _∙_, subst}
-use mathlib.Core.Bool.{Bool, true, false, cond}
+use mathlib.Core.Bool.{true, cond}
 use mathlib.Core.List.{List, [], _∷_, _++_}
 use mathlib.Core.Option.{some}
 use Prim.Native.Nat.{ℕ, _+_, _-_, _≤_, _<_}
 use native.Mathlib.Omega.{arith}
-use lib.Dec.{leb}
 use lib.Ieee.{Float, binary64, fits}
-use lib.Ieee.Scale.{finite}
 use borrow.Author.Tests.{leb-false}
-use Rattle.floats.specs.Arithmetic.{_⊗_}
 use Rattle.refusals.specs.Results.{value}
 use Rattle.refusals.specs.Refusals.{inOrder, refusedBy}
-use Rattle.refusals.specs.declared.Refusal.the-variants.{SuppliedNotFinite, StepNotFinite}
 use Rattle.refusals.proofs.Refusals.{Passed, passed, never-refused, by-rows}
 use Rattle.runs.specs.Outcomes.{refusalIn}
 use Rattle.runs.specs.Asking.{Reply, shown, reported, isOver as over, after, toldNext, reached}
-use Rattle.runs.specs.Counters.{oneMore, evaluations}
+use Rattle.runs.specs.Counters.{oneMore}
 use Rattle.runs.specs.declared.Evaluations.{Evaluations}
 use Rattle.runs.specs.declared.Iterations.{Iterations}
-use Rattle.runs.specs.declared.Outcome.the-variants.{Ask, Stop, Limit, Refused}
-use Rattle.runs.specs.declared.Verdict.the-variants.{Met}
 use Rattle.runs.proofs.Ends.{EndsWithin, by-after}
 use Rattle.runs.proofs.Machines.{counts-on}
 use Rattle.runs.proofs.Tied.{Tied, after-one-more, stands-at, told-at, outcomes-are, ends-in-time}
 use Rattle.runs.proofs.Tied.{finite-bounded, finite-counted, not-finite-once}
 use Rattle.runs.proofs.Tied as machines
-use Rattle.conditions.specs.Conditions.{answerFinite, holdsOf}
+use Rattle.conditions.specs.Conditions.{answerFinite}
 use Rattle.backtracking.specs.declared.Options.{Options}
 use Rattle.backtracking.specs.declared.Setup.{Setup}
 use Rattle.backtracking.specs.declared.Stage.{Stage}
@@ -36,14 +30,14 @@ use Rattle.backtracking.specs.declared.Stage.the-variants.{First, Later, Over}
 use Rattle.backtracking.specs.declared.Backtracking.{Backtracking}
 use Rattle.backtracking.specs.declared.Turn.{Turn}
 use Rattle.backtracking.specs.Backtracking.{startRows, setupOf, backtracking}
-use Rattle.backtracking.specs.Machine.{madeOf, triedOf, answerBy, answerOf, freshOf, startOf}
+use Rattle.backtracking.specs.Machine.{triedOf, answerBy, answerOf, freshOf, startOf}
 use Rattle.backtracking.specs.Meaning.{meaning, meant, isOver, Follows}
 use Rattle.backtracking.proofs.Bridge.{follows, starts-whole, first-asked, question-at}
 use Rattle.demands.specs.Backtracking.{machine, Searches, BacktrackingDemands}
 use Rattle.demands.proofs.Trials.{supplied, ranges, limit-fits, alpha-finite, trials-rest, trials-end}
 use Rattle.demands.proofs.Trials.{NotFive, other-number, not-five, five-untold}
-use Rattle.demands.proofs.Tried.{answered}
-use Rattle.demands.proofs.EmptyPrograms.{empty-shut-out, second-ask}
+use Rattle.demands.proofs.Tried.{by-tests, answered}
+use Rattle.demands.proofs.EmptyPrograms.{first-shut-out, empty-shut-out, second-ask}
 
 -- ---- any state: the rules report what it counts, and are over where it is
 reports : (s : Setup) (i : ℕ) (stage : Stage) → reported (meaning s i stage) ≡ i
@@ -74,28 +68,15 @@ record Fit (s : Setup) (c : Backtracking) : Type 0 where
   same : c .setup ≡ s
   counts : Counted (s .options .limit) (c .stage) (c .evaluations .0) (c .iterations .0)
 
-module _ (s : Setup) (n : Evaluations) (before now : Iterations) (t f g : Float)
-    (fewer : before .0 ≡ n .0 - 1) (more : oneMore (n .0) ≡ now .0 + 1) where
-  tried-fits : Fit s (triedOf s n before now t f g .search)
-  unfolding triedOf
-  tried-fits =
-      by (answerFinite (s .options .condition) f g) (holdsOf (s .options .condition) (s .f0) (s .s0) t f g)
-      (leb (s .options .limit) (now .0)) (finite (t ⊗ s .options .rho)) refl
-    where
-      by : (a h l x : Bool) → leb (s .options .limit) (now .0) ≡ l
-          → Fit s
-          ((let m = evaluations (oneMore (n .0)) in
-          cond a
-          (cond h (madeOf s m now Over (Stop Met t))
-          (cond l (madeOf s m now Over (Limit t))
-          (cond x (madeOf s m now (Later (t ⊗ s .options .rho)) (Ask (t ⊗ s .options .rho)))
-          (madeOf s m now Over (Refused StepNotFinite)))))
-          (madeOf s n before Over (Refused SuppliedNotFinite))) .search)
-      by false h l x e = record { same = refl; counts = fewer }
-      by true true l x e = record { same = refl; counts = omega arith }
-      by true false true x e = record { same = refl; counts = omega arith }
-      by true false false true e = record { same = refl; counts = (more, leb-false _ _ e) }
-      by true false false false e = record { same = refl; counts = omega arith }
+tried-fits : (s : Setup) (n : Evaluations) (before now : Iterations) (t f g : Float) → before .0 ≡ n .0 - 1
+    → oneMore (n .0) ≡ now .0 + 1 → Fit s (triedOf s n before now t f g .search)
+tried-fits s n before now t f g fewer more =
+    by-tests (λ r. Fit s (r .search)) s n before now t f g
+    (λ a. record { same = refl; counts = fewer })
+    (λ a h. record { same = refl; counts = omega arith })
+    (λ a h l. record { same = refl; counts = omega arith })
+    (λ a h l x. record { same = refl; counts = (more, leb-false _ _ l) })
+    (λ a h l x. record { same = refl; counts = omega arith })
 
 fits-next : (c : Backtracking) (f g : Float) (stage : Stage) → c .stage ≡ stage → c .setup .options .limit ≤ 10000
     → Counted (c .setup .options .limit) stage (c .evaluations .0) (c .iterations .0)
@@ -198,6 +179,7 @@ unfolding inOrder
 backtracking-demands = record {
   start = λ o f0 s0 r said. record { exactly = ap refusedBy said ∙ by-rows (startRows o f0 s0) _; ordered = refl };
   answer = answered;
+  first-shut-out = first-shut-out;
   empty-shut-out = empty-shut-out;
   second-ask = second-ask;
   search-given = searches;

@@ -1,7 +1,7 @@
 -- 01, "How tight the contracts are": a program that refuses everything, one that asks the same step each time and one
 -- that hands the state back untouched break demand 2. None of them meets the clause `rules` of backtracking's `answer`
--- (`empty-shut-out`); and what the rules do instead (`second-ask`). Hager-Zhang's stand in Demand2.antt. Assumes
--- nothing.
+-- (`first-shut-out`, `empty-shut-out`); and what the rules do instead (`second-ask`). Hager-Zhang's stand in
+-- Demand2.antt. Assumes nothing.
 use mathlib.Core.Path.{_≡_, sym, ap, _∙_}
 use mathlib.Core.Bool.{true, false, false≢true}
 use mathlib.Core.Option.{some, Option·none-ne-some, Option·some-injective}
@@ -9,7 +9,7 @@ use Prim.Native.Nat.{ℕ}
 use lib.Ieee.{Float, mul, lt, ofBits, ofInt}
 use lib.Ieee.Scale.{finite}
 use Rattle.floats.specs.Arithmetic.{_⊗_, _<ᶠ_, 1ᶠ}
-use Rattle.refusals.proofs.Refusals.{passed}
+use Rattle.refusals.proofs.Refusals.{Passed, passed}
 use Rattle.runs.specs.Outcomes.{asks, told, refusalIn}
 use Rattle.runs.specs.Asking.{Rest, respond, shown, awaits, isOver, onceTold}
 use Rattle.runs.proofs.Tied.{moves-on}
@@ -54,38 +54,51 @@ waits s i First x e = at-trial s _ _ _ _ x e
 waits s i (Later t) x e = at-trial s _ _ _ _ x e
 waits s i Over x e = absurd (Option·none-ne-some x e)
 
-module _ (b : Backtracking) (x : Float) (at : Waits (b .setup) x (meant b)) (f g : Float) (r : Turn)
+-- what meets `Starts` stands for the first trial
+begun : (o : Options) (f0 s0 : Float) (t : Turn) → Starts o f0 s0 (Began t)
+    → Passed (startRows o f0 s0) × Waits (setupOf o f0 s0) (o .alpha) (meant (t .search))
+begun o f0 s0 t starts =
+    let s = setupOf o f0 s0 in
+    let given = passed (startRows o f0 s0) (backtracking s) (meant (t .search)) (sym (starts .stands-for)) in
+    (given .0, record { left = o .limit; before = 0; now = 0; stands = sym (given .1) })
+
+-- ---- an answer to it
+module _ (s : Setup) (x : Float) (b : Backtracking) (at : Waits s x (meant b)) (f g : Float) (r : Turn)
     (by : Follows b f g r) where
   abbrev here : Rest ℕ
-  here = trials (b .setup) (at .left) (at .before) (at .now) x
+  here = trials s (at .left) (at .before) (at .now) x
 
   tells : told (r .outcome) ≡ shown (respond here f g)
   tells = by .tells ∙ ap (λ (q : Rest ℕ). shown (respond q f g)) (at .stands)
 
   open-here : isOver here ≡ false
   unfolding isOver
-  open-here = ap isOver (question-at (b .setup) (at .left) (at .before) (at .now) x .1)
+  open-here = ap isOver (question-at s (at .left) (at .before) (at .now) x .1)
 
   -- a state handed back untouched would stand for the same search
   untouched : r .search ≡ b → onceTold here ≡ onceTold (respond here f g)
   untouched same =
-      trials-rest (b .setup) (at .left) (at .before) (at .now) x ∙ sym (at .stands) ∙ sym (ap meant same) ∙ by .leaves
+      trials-rest s (at .left) (at .before) (at .now) x ∙ sym (at .stands) ∙ sym (ap meant same) ∙ by .leaves
       ∙ ap (λ (q : Rest ℕ). onceTold (respond q f g)) (at .stands)
 
-  shut-out : EmptyShutOut b x f g r
+  shut-out : EmptyShutOut s x b f g r
   shut-out = record {
     refusing = λ p q n e.
         Option·none-ne-some n
-        (sym (ap refusalIn tells ∙ no-refusal (b .setup) (at .before) (at .now) x f g (at .left) p q) ∙ e);
-    same-step = λ differs e.
-        differs (asks-next (b .setup) (at .before) (at .now) x f g (at .left) x (sym tells ∙ e));
+        (sym (ap refusalIn tells ∙ no-refusal s (at .before) (at .now) x f g (at .left) p q) ∙ e);
+    same-step = λ differs e. differs (asks-next s (at .before) (at .now) x f g (at .left) x (sym tells ∙ e));
     untouched = λ same.
-        moves-on here (trials-end (b .setup) (at .left) (at .before) (at .now) x) open-here f g (untouched same);
+        moves-on here (trials-end s (at .left) (at .before) (at .now) x) open-here f g (untouched same);
   }
 
+pub first-shut-out : (o : Options) (f0 s0 : Float) (t : Turn) → Starts o f0 s0 (Began t) → (f g : Float) (r : Turn)
+    → Follows (t .search) f g r → EmptyShutOut (setupOf o f0 s0) (o .alpha) (t .search) f g r
+first-shut-out o f0 s0 t starts f g r by =
+    shut-out (setupOf o f0 s0) (o .alpha) (t .search) (begun o f0 s0 t starts .1) f g r by
+
 pub empty-shut-out : (b : Backtracking) (x : Float) → awaits (meant b) ≡ some x → (f g : Float) (r : Turn)
-    → Follows b f g r → EmptyShutOut b x f g r
-empty-shut-out b x e f g r by = shut-out b x (waits (b .setup) (b .iterations .0) (b .stage) x e) f g r by
+    → Follows b f g r → EmptyShutOut (b .setup) x b f g r
+empty-shut-out b x e f g r by = shut-out (b .setup) x b (waits (b .setup) (b .iterations .0) (b .stage) x e) f g r by
 
 -- ---- and what they do instead: "Backtracking asks alpha, tests, then alpha*rho"
 
@@ -94,12 +107,11 @@ pub second-ask : (o : Options) (f0 s0 : Float) (t : Turn) → Starts o f0 s0 (Be
     → answerFinite (o .condition) f g ≡ true → holdsOf (o .condition) f0 s0 (o .alpha) f g ≡ false
     → finite (o .alpha ⊗ o .rho) ≡ true → (r : Turn) → Follows (t .search) f g r
     → told (r .outcome) ≡ asks (o .alpha ⊗ o .rho)
-second-ask o f0 s0 t starts f g p h q r follows =
-    let s = setupOf o f0 s0 in
-    let begun = passed (startRows o f0 s0) (backtracking s) (meant (t .search)) (sym (starts .stands-for)) in
-    follows .tells
-    ∙ ap (λ (c : Rest ℕ). shown (respond c f g)) (sym (begun .1))
-    ∙ asks-shorter s 0 0 (o .alpha) f g (o .limit) (limit-left o (ranges o f0 s0 (begun .0))) p h q
+unfolding begun
+second-ask o f0 s0 t starts f g p h q r by =
+    let at = begun o f0 s0 t starts in
+    by .tells ∙ ap (λ (c : Rest ℕ). shown (respond c f g)) (at .1 .stands)
+    ∙ asks-shorter (setupOf o f0 s0) 0 0 (o .alpha) f g (o .limit) (limit-left o (ranges o f0 s0 (at .0))) p h q
 
 -- with argmin's defaults alpha * rho is not alpha
 pub defaults-shrink : (C : Condition) → let o = defaultsOf C in o .alpha ⊗ o .rho ≡ o .alpha → ⊥

@@ -1,7 +1,7 @@
 -- 01's rules of backtracking: what is known of a start that no row refuses; the trials end within as many answers as
 -- there may be trials; what is told at an answer to one; and 5 never comes. Assumes nothing.
 use mathlib.Core.Path.{_≡_, refl, sym, ap, _∙_}
-use mathlib.Core.Bool.{Bool, true, false, cond, _&&_}
+use mathlib.Core.Bool.{Bool, true, false, _&&_, true≢false}
 use mathlib.Core.Option.{none, some, Option·none-ne-some, Option·some-injective}
 use Prim.Native.Nat.{ℕ, zero, suc, _+_, _≤_}
 use native.Mathlib.Omega.{arith}
@@ -12,13 +12,13 @@ use lib.Ieee.Fits.{mul-fits}
 use lib.Ieee.Scale.{finite}
 use borrow.Author.Tests.{leb-true, not-false}
 use Rattle.floats.specs.Arithmetic.{_⊗_, _<ᶠ_, 0ᶠ, 1ᶠ}
-use Rattle.floats.proofs.Branches.{and-first, and-second}
+use Rattle.floats.proofs.Branches.{by-cases, and-first, and-second}
 use Rattle.floats.proofs.Shrinks.{times-below-one}
 use Rattle.refusals.proofs.Refusals.{Passed, all, and}
 use Rattle.runs.specs.Outcomes.{Ending, Why, asks, ends, numbered, refusalIn}
 use Rattle.runs.specs.Asking.{Rest, Ended, ask, end, respond, shown, onceTold}
 use Rattle.runs.proofs.Apart.{asks-not-ends, same-step}
-use Rattle.runs.proofs.Ends.{EndsWithin, at-end, either-way, question-ends, EndsBy, it-ends, it-asks}
+use Rattle.runs.proofs.Ends.{EndsWithin, at-end, question-ends, EndsBy, it-ends, it-asks}
 use Rattle.conditions.specs.Conditions.{inRange, constantsFinite, answerFinite, holdsOf}
 use Rattle.backtracking.specs.declared.Options.{Options}
 use Rattle.backtracking.specs.declared.Setup.{Setup}
@@ -86,11 +86,11 @@ pub trials-end : (s : Setup) (k before now : ℕ) (t : Float)
     → EndsWithin (answerFinite (s .options .condition)) (suc k) (trials s k before now t)
 unfolding trials
 trials-end s zero before now t =
-    question-ends before t _ (λ f g. either-way (EndsWithin _ 0) (holds s t f g) at-end at-end)
+    question-ends before t _ (λ f g. by-cases (EndsWithin _ 0) (holds s t f g) (λ h. at-end) (λ h. at-end))
 trials-end s (suc k) before now t =
     question-ends before t _
-    (λ f g. either-way (EndsWithin _ (suc k)) (holds s t f g) at-end
-    (either-way (EndsWithin _ (suc k)) (shrinks s t f g) (trials-end s k now (now + 1) _) at-end))
+    (λ f g. by-cases (EndsWithin _ (suc k)) (holds s t f g) (λ h. at-end)
+    (λ h. by-cases (EndsWithin _ (suc k)) (shrinks s t f g) (λ q. trials-end s k now (now + 1) _) (λ q. at-end)))
 
 -- ---- what is told at an answer to the trial at x
 module _ (s : Setup) (before now : ℕ) (x f g : Float) where
@@ -98,14 +98,16 @@ module _ (s : Setup) (before now : ℕ) (x f g : Float) where
   next = x ⊗ s .options .rho
 
   -- no refusal, where the answer and the next step are finite
+  abbrev Unrefused : Rest ℕ → Type 0
+  Unrefused r = refusalIn (shown r) ≡ none
+
   pub no-refusal : (k : ℕ) → answerFinite (s .options .condition) f g ≡ true → finite next ≡ true
       → refusalIn (shown (respond (trials s k before now x) f g)) ≡ none
   unfolding trials respond shown
-  no-refusal zero p q = rw p (either-way (λ r. refusalIn (shown r) ≡ none) (holds s x f g) refl refl)
+  no-refusal zero p q = rw p (by-cases Unrefused (holds s x f g) (λ h. refl) (λ h. refl))
   no-refusal (suc k) p q =
       rw (p, q)
-      (either-way (λ r. refusalIn (shown r) ≡ none) (holds s x f g) refl
-      (ap refusalIn (asked-shown s k now (now + 1) next)))
+      (by-cases Unrefused (holds s x f g) (λ h. refl) (λ h. ap refusalIn (asked-shown s k now (now + 1) next)))
 
   -- no other step than the next
   Shorter : Float → Rest ℕ → Type 0
@@ -118,14 +120,15 @@ module _ (s : Setup) (before now : ℕ) (x f g : Float) where
   pub asks-next : (k : ℕ) (y : Float) → shown (respond (trials s k before now x) f g) ≡ asks y → next ≡ y
   unfolding trials respond Shorter
   asks-next zero y =
-      either-way (Shorter y) (isFinite s x f g) (either-way (Shorter y) (holds s x f g) (ended y _) (ended y _))
-      (ended y _)
+      by-cases (Shorter y) (isFinite s x f g)
+      (λ a. by-cases (Shorter y) (holds s x f g) (λ h. ended y _) (λ h. ended y _))
+      (λ a. ended y _)
   asks-next (suc k) y =
-      either-way (Shorter y) (isFinite s x f g)
-      (either-way (Shorter y) (holds s x f g) (ended y _)
-      (either-way (Shorter y) (shrinks s x f g) (λ e. same-step _ _ (sym (asked-shown s k now (now + 1) next) ∙ e))
-      (ended y _)))
-      (ended y _)
+      by-cases (Shorter y) (isFinite s x f g)
+      (λ a. by-cases (Shorter y) (holds s x f g) (λ h. ended y _)
+      (λ h. by-cases (Shorter y) (shrinks s x f g)
+      (λ q e. same-step _ _ (sym (asked-shown s k now (now + 1) next) ∙ e)) (λ q. ended y _)))
+      (λ a. ended y _)
 
   -- and that one where the condition is not met, while a trial may follow
   pub asks-shorter : (k : ℕ) → 1 ≤ k → answerFinite (s .options .condition) f g ≡ true
@@ -142,24 +145,26 @@ NotFive e = refusalIn (ends (numbered e)) ≡ some 5 → ⊥
 pub other-number : (n : ℕ) → (n ≡ 5 → ⊥) → some n ≡ some 5 → ⊥
 other-number n differs e = differs (Option·some-injective n 5 e)
 
-chosen : (b : Bool) (r q : Rest ℕ) → b ≡ true → EndsBy NotFive r → EndsBy NotFive (cond b r q)
-chosen b r q e h = rw e h
-
 module _ (s : Setup) (ok : inRanges (s .options) ≡ true) where
+  abbrev rho : Float
+  rho = s .options .rho
+
   pub not-five : (k before now : ℕ) (t : Float) → fits binary64 t ≡ true → finite t ≡ true
       → EndsBy NotFive (trials s k before now t)
   unfolding trials NotFive
   not-five zero before now t F p =
-      it-asks (λ f g. either-way (EndsBy NotFive) (isFinite s t f g)
-      (either-way (EndsBy NotFive) (holds s t f g) (it-ends (Option·none-ne-some 5)) (it-ends (Option·none-ne-some 5)))
-      (it-ends (other-number 2 (λ e. omega arith))))
+      it-asks (λ f g. by-cases (EndsBy NotFive) (isFinite s t f g)
+      (λ a. by-cases (EndsBy NotFive) (holds s t f g) (λ h. it-ends (Option·none-ne-some 5))
+      (λ h. it-ends (Option·none-ne-some 5)))
+      (λ a. it-ends (other-number 2 (λ e. omega arith))))
   not-five (suc k) before now t F p =
-      let rho = s .options .rho in
-      let q = times-below-one t rho F p (rho-above-zero (s .options) ok) (rho-below-one (s .options) ok) in
-      it-asks (λ f g. either-way (EndsBy NotFive) (isFinite s t f g)
-      (either-way (EndsBy NotFive) (holds s t f g) (it-ends (Option·none-ne-some 5))
-      (chosen (shrinks s t f g) _ _ q (not-five k now (now + 1) (t ⊗ rho) (is-true _ (mul-fits binary64 t rho)) q)))
-      (it-ends (other-number 2 (λ e. omega arith))))
+      let shorter = times-below-one t rho F p (rho-above-zero (s .options) ok) (rho-below-one (s .options) ok) in
+      it-asks (λ f g. by-cases (EndsBy NotFive) (isFinite s t f g)
+      (λ a. by-cases (EndsBy NotFive) (holds s t f g) (λ h. it-ends (Option·none-ne-some 5))
+      (λ h. by-cases (EndsBy NotFive) (shrinks s t f g)
+      (λ q. not-five k now (now + 1) (t ⊗ rho) (is-true _ (mul-fits binary64 t rho)) q)
+      (λ q. absurd (true≢false (sym shorter ∙ q)))))
+      (λ a. it-ends (other-number 2 (λ e. omega arith))))
 
 pub five-untold : (r : Rest ℕ) → EndsBy NotFive r → refusalIn (shown r) ≡ some 5 → ⊥
 unfolding shown NotFive

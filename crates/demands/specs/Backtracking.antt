@@ -80,11 +80,12 @@ pub record Tried (b : Backtracking) (f g : Float) (r : Turn) : Type 0 where
       (cond (answerFinite (b .setup .options .condition) f g) (oneMore (b .evaluations .0)) (b .evaluations .0))
 
 -- 01's empty programs break demand 2: "One that refuses everything, one that asks the same step each time, and one that
--- hands the state back untouched". The answer f, g to a state that awaits one at x; a step that shrinks is not x again
-pub record EmptyShutOut (b : Backtracking) (x f g : Float) (r : Turn) : Type 0 where
-  pub refusing : answerFinite (b .setup .options .condition) f g ≡ true → finite (x ⊗ b .setup .options .rho) ≡ true
+-- hands the state back untouched". The answer f, g to the search b, which awaits one at x; a step that shrinks is not x
+-- again
+pub record EmptyShutOut (s : Setup) (x : Float) (b : Backtracking) (f g : Float) (r : Turn) : Type 0 where
+  pub refusing : answerFinite (s .options .condition) f g ≡ true → finite (x ⊗ s .options .rho) ≡ true
       → (n : ℕ) → refusalIn (told (r .outcome)) ≡ some n → ⊥
-  pub same-step : (x ⊗ b .setup .options .rho ≡ x → ⊥) → told (r .outcome) ≡ asks x → ⊥
+  pub same-step : (x ⊗ s .options .rho ≡ x → ⊥) → told (r .outcome) ≡ asks x → ⊥
   pub untouched : r .search ≡ b → ⊥
 
 -- ---- along any answers
@@ -135,8 +136,11 @@ pub record BacktrackingDemands : Type 0 where
   pub start : (o : Options) (f0 s0 : Float) (r : Started) → StartSaid o f0 s0 r
       → Table (refusedBy (startedTold r)) (startRows o f0 s0)
   pub answer : (b : Backtracking) (f g : Float) (r : Turn) → AnswerSaid b f g r → Tried b f g r
+  -- what meets the rules is no empty program: at the first answer, and in any state that awaits one
+  pub first-shut-out : (o : Options) (f0 s0 : Float) (t : Turn) → Starts o f0 s0 (Began t) → (f g : Float) (r : Turn)
+      → Follows (t .search) f g r → EmptyShutOut (setupOf o f0 s0) (o .alpha) (t .search) f g r
   pub empty-shut-out : (b : Backtracking) (x : Float) → awaits (meant b) ≡ some x → (f g : Float) (r : Turn)
-      → Follows b f g r → EmptyShutOut b x f g r
+      → Follows b f g r → EmptyShutOut (b .setup) x b f g r
   -- "Backtracking asks alpha, tests, then alpha*rho": a finite first answer does not meet the condition
   pub second-ask : (o : Options) (f0 s0 : Float) (t : Turn) → Starts o f0 s0 (Began t) → (f g : Float)
       → answerFinite (o .condition) f g ≡ true → holdsOf (o .condition) f0 s0 (o .alpha) f g ≡ false

@@ -9,6 +9,7 @@ use native.Mathlib.Nat.{not-suc-le-zero, le-of-suc-le-suc}
 use native.Mathlib.Omega.{arith}
 use lib.ListN.{length}
 use lib.Ieee.{Float}
+use Rattle.floats.proofs.Branches.{by-cases}
 use Rattle.runs.specs.Outcomes.{Ending, refusal, Why, answerNotFinite, alreadyOver}
 use Rattle.runs.specs.Asking.{ask, end, Rest, Ended, endWith, keeping, question, Reply, respond, isOver, after}
 use Rattle.runs.proofs.Accepted.{accepted, notFinite, none-more}
@@ -24,11 +25,6 @@ one-at-most true m n h = omega arith
 one-at-most false m n h = omega arith
 
 module _ {K : Type 0} where
-  -- what is true of both searches, of which a test chooses one
-  pub either-way : (P : Rest K → Type 0) (b : Bool) {r q : Rest K} → P r → P q → P (cond b r q)
-  either-way P true h k = h
-  either-way P false h k = k
-
   stays-over : (o : Ended K) (ys : List Reply) → isOver (after (end o) ys) ≡ true
   unfolding isOver after respond
   stays-over o [] = refl
@@ -45,7 +41,7 @@ module _ {K : Type 0} {finite : Float → Float → Bool} where
       → EndsWithin finite (suc n) (question finite (keeping k) k x then)
   question-ends k x then e =
       at-ask {k = k} {then = λ f g. cond (finite f g) (then f g) (endWith k (refusal (answerNotFinite f g)))}
-      (λ f g u. rw u) (λ f g. either-way (EndsWithin finite _) (finite f g) (e f g) at-end)
+      (λ f g u. rw u) (λ f g. by-cases (EndsWithin finite _) (finite f g) (λ u. e f g) (λ u. at-end))
 
   -- and after any answers within as many more
   ends-next : {n : ℕ} {r : Rest K} → EndsWithin finite n r → (f g : Float) → EndsWithin finite n (respond r f g)
