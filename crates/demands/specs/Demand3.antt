@@ -74,7 +74,7 @@ module _ (o : Options) (f0 s0 : Float) (t : Turn) where
     -- 01 on the counts: each answer leaves the report as it was, or gives the first, or finishes an iteration, which is
     -- counted; so the iterations are those that the answers finished, N at most
     pub each-answer : (ys : List Reply) (y : Reply)
-        → Brings (Whole s) (askedAt b ys y) (report (reachedBy b ys)) (report (reachedBy b (and-then ys y)))
+        → Brings s (askedAt b ys y) (report (reachedBy b ys)) (report (reachedBy b (and-then ys y)))
     pub iterations-counted : (ys : List Reply) → iterationsIn (report (reachedBy b ys)) ≡ finishedBy b ys
     pub iterations-bounded : (ys : List Reply) → iterationsIn (report (reachedBy b ys)) ≤ o .limit
     -- ""limit", with bracket and best of the N-th iteration"

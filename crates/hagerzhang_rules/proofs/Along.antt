@@ -53,60 +53,58 @@ module _ {s : Setup} {asked : List Point} where
   stands-after y (ended {o = o} fine few why) = rw (no-further (o .keeps)) (ended fine few already)
 
   pub answer-moves : {r : Rest Report} (y : Reply) → Stands s asked r
-      → Brings (Whole s) (noted r y asked) (reported r) (reported (respond r (y .0) (y .1)))
+      → Brings s (noted r y asked) (reported r) (reported (respond r (y .0) (y .1)))
   unfolding respond reported
   answer-moves y (awaiting fine why u b go) = b (y .0) (y .1)
   answer-moves y (ended fine few why) = as-before
 
 -- an answer after which one more iteration is counted has finished it
-finished-now : {P : Summary → List Point → Summary → Type 0} {asked : List Point} {p q : Summary}
-    → Brings P asked (last p) (last q) → q .iterations ≡ p .iterations + 1 → P p asked q
+finished-now : {s : Setup} {asked : List Point} {p q : Summary} → Brings s asked (last p) (last q)
+    → q .iterations ≡ p .iterations + 1 → Whole s p asked q
 finished-now as-before i = absurd (omega arith)
 finished-now (finished-one i' f) i = f
 
-counts-one : {P : Summary → List Point → Summary → Type 0} {asked : List Point} {k l : Report} → Brings P asked k l
+counts-one : {s : Setup} {asked : List Point} {k l : Report} → Brings s asked k l
     → iterationsIn l ≡ iterationsIn k + cond (ltb (iterationsIn k) (iterationsIn l)) 1 0
 counts-one {k = k} as-before = rw (le-ltb (iterationsIn k) (iterationsIn k) (omega arith)) (omega arith)
 counts-one (first i) = rw i
 counts-one (finished-one {p = p} {q = q} i f) =
     rw (lt-ltb (p .iterations) (q .iterations) (omega arith)) (omega arith)
 
--- the bracket that is reported meets demand 3's three, and its ends are in order
+pub each-finished : {s : Setup} {asked : List Point} {r : Rest Report} (y : Reply) (p q : Summary) → Stands s asked r
+    → reported r ≡ last p → reported (respond r (y .0) (y .1)) ≡ last q → q .iterations ≡ p .iterations + 1
+    → Whole s p (noted r y asked) q
+each-finished y p q a e e' = finished-now (rw (e, e') at (answer-moves y a))
+
+-- ---- any answers
+pub stands-along : {s : Setup} (ys : List Reply) {asked : List Point} {r : Rest Report} → Stands s asked r
+    → Stands s (under-way asked r ys) (after r ys)
+unfolding after under-way
+stands-along [] a = a
+stands-along (y ∷ ys) a = stands-along ys (stands-after y a)
+
+pub finished-counted : {s : Setup} (ys : List Reply) {asked : List Point} {r : Rest Report} → Stands s asked r
+    → iterationsIn (reported (after r ys)) ≡ iterationsIn (reported r) + finished-by r ys
+unfolding after finished-by
+finished-counted [] a = omega arith
+finished-counted (y ∷ ys) a =
+    let one = counts-one (answer-moves y a) in
+    let more = finished-counted ys (stands-after y a) in
+    omega arith
+
+-- ---- the bracket that is reported meets demand 3's three, and its ends are in order; then so does every later one
 abbrev pub Holds : Float → Report → Type 0
 Holds L noneYet = ⊥
 Holds L (last p) = (premise L (p .bracket .a) (p .bracket .b) ≡ true) × Ordered (p .bracket)
 
--- ---- any answers
-module _ {s : Setup} where
-  pub each-finished : {asked : List Point} {r : Rest Report} (y : Reply) (p q : Summary) → Stands s asked r
-      → reported r ≡ last p → reported (respond r (y .0) (y .1)) ≡ last q → q .iterations ≡ p .iterations + 1
-      → Whole s p (noted r y asked) q
-  each-finished y p q a e e' = finished-now (rw (e, e') at (answer-moves y a))
+holds-moved : {s : Setup} {asked : List Point} {k l : Report} → Brings s asked k l → Holds (s .level) k
+    → Holds (s .level) l
+holds-moved as-before h = h
+holds-moved (first i) h = absurd h
+holds-moved (finished-one i f) h = (f .stays (h .0), f .ordered)
 
-  pub stands-along : (ys : List Reply) {asked : List Point} {r : Rest Report} → Stands s asked r
-      → Stands s (under-way asked r ys) (after r ys)
-  unfolding after under-way
-  stands-along [] a = a
-  stands-along (y ∷ ys) a = stands-along ys (stands-after y a)
-
-  pub finished-counted : (ys : List Reply) {asked : List Point} {r : Rest Report} → Stands s asked r
-      → iterationsIn (reported (after r ys)) ≡ iterationsIn (reported r) + finished-by r ys
-  unfolding after finished-by
-  finished-counted [] a = omega arith
-  finished-counted (y ∷ ys) a =
-      let one = counts-one (answer-moves y a) in
-      let more = finished-counted ys (stands-after y a) in
-      omega arith
-
-  -- ---- where that is so, it is so of every later one
-  holds-moved : {asked : List Point} {k l : Report} → Brings (Whole s) asked k l → Holds (s .level) k
-      → Holds (s .level) l
-  holds-moved as-before h = h
-  holds-moved (first i) h = absurd h
-  holds-moved (finished-one i f) h = (f .stays (h .0), f .ordered)
-
-  pub holds-along : (ys : List Reply) {asked : List Point} {r : Rest Report} → Stands s asked r
-      → Holds (s .level) (reported r) → Holds (s .level) (reported (after r ys))
-  unfolding after
-  holds-along [] a h = h
-  holds-along (y ∷ ys) a h = holds-along ys (stands-after y a) (holds-moved (answer-moves y a) h)
+pub holds-along : {s : Setup} (ys : List Reply) {asked : List Point} {r : Rest Report} → Stands s asked r
+    → Holds (s .level) (reported r) → Holds (s .level) (reported (after r ys))
+unfolding after
+holds-along [] a h = h
+holds-along (y ∷ ys) a h = holds-along ys (stands-after y a) (holds-moved (answer-moves y a) h)

@@ -18,7 +18,7 @@ use Rattle.hagerzhang_rules.specs.declared.Options.{Options}
 use Rattle.hagerzhang_rules.specs.declared.Setup.{Setup}
 use Rattle.hagerzhang_rules.specs.Parameters.{setupOf, startRows}
 use Rattle.hagerzhang_rules.specs.Rules.{answerFinite, Report, noneYet, last, hagerZhang}
-use Rattle.hagerzhang_rules.specs.Iterations.{Whole, Brings, as-before, first, finished-one}
+use Rattle.hagerzhang_rules.specs.Iterations.{Brings, as-before, first, finished-one}
 use Rattle.hagerzhang_rules.proofs.UnderWay.{since}
 use Rattle.hagerzhang_rules.proofs.Iterations.{Asks, in-start, in-iteration, Stands, awaiting, ended, no-further}
 use Rattle.hagerzhang_rules.proofs.EachIteration.{search-stands}
@@ -35,7 +35,7 @@ before s (last p) = 3 + p .iterations * M s
 module _ {s : Setup} where
   -- of 3+N(3+3B) answers m are left: each takes one
   one-less : {asked : List Point} {d : Point} {x : Float} {k l : Report} (m : ℕ) → Asks s asked x k
-      → Brings (Whole s) (d ∷ asked) k l
+      → Brings s (d ∷ asked) k l
       → 3 + s .options .limit * M s ≤ suc m + (length asked + before s k)
       → 3 + s .options .limit * M s ≤ m + (length (since k (d ∷ asked) l) + before s l)
   one-less {k = k} m why as-before h = rw (no-further k) (omega arith)

@@ -80,7 +80,7 @@ module _ (o : Options) (f0 s0 : Float) (ok : Passed (startRows o f0 s0)) where
     -- every answer leaves the report as it was, or is the start's last, or finishes the iteration under way, which is
     -- counted
     pub each-answer : (y : Reply)
-        → Brings (Whole s) (noted here y asked) (reported here) (reported (respond here (y .0) (y .1)))
+        → Brings s (noted here y asked) (reported here) (reported (respond here (y .0) (y .1)))
     each-answer y = answer-moves y stands
 
     -- "an iteration takes at most 3+3B answers": also one that is not finished, and whether its last answer is finite

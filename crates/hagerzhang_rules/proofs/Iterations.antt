@@ -46,7 +46,7 @@ pub data Stands (s : Setup) : List Point → Rest Report → Type 0 where
       → Fine s k
       → Asks s asked x k
       → ((f g : Float) → answerFinite f g ≡ false → then f g ≡ endWith k (refusal (answerNotFinite f g)))
-      → ((f g : Float) → Brings (Whole s) (point x f g ∷ asked) k (reported (then f g)))
+      → ((f g : Float) → Brings s (point x f g ∷ asked) k (reported (then f g)))
       → ((f g : Float) → Stands s (since k (point x f g ∷ asked) (reported (then f g))) (then f g))
       → Stands s asked (ask k x then)
   ended : {asked : List Point} {o : Ended Report} → Fine s (o .keeps) → length asked ≤ 3 + 3 * s .options .budget
@@ -54,7 +54,7 @@ pub data Stands (s : Setup) : List Point → Rest Report → Type 0 where
 
 -- ---- from the report k, with these points asked since, a search has come to r
 pub record Arrives (s : Setup) (k : Report) (asked : List Point) (r : Rest Report) : Type 0 where
-  pub brings : Brings (Whole s) asked k (reported r)
+  pub brings : Brings s asked k (reported r)
   pub stands : Stands s (since k asked (reported r)) r
 
 pub no-further : (k : Report) → ltb (progress k) (progress k) ≡ false

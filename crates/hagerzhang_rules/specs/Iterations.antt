@@ -24,8 +24,6 @@ use Rattle.hagerzhang_rules.specs.Brackets.{premise, Ordered, Within}
 use Rattle.hagerzhang_rules.specs.Rules.{point, answerFinite, updateOf, middleOf, narrowedOf, judgeOf, iteration}
 use Rattle.hagerzhang_rules.specs.Rules.{Summary, Report, noneYet, last}
 
--- ---- what is asked in an iteration
-
 -- how far a search is by its report: at 0 in its start, then 1 more than its finished iterations
 abbrev pub progress : Report → ℕ
 progress noneYet = 0
@@ -45,11 +43,12 @@ pub data Plays (r : Alone) : List Point → Alone → Type 0 where
   then-asked : {asked : List Point} {k : Report} {x : Float} {then : Float → Float → Alone}
       → Plays r asked (ask k x then) → (f g : Float) → Plays r (point x f g ∷ asked) (then f g)
 
--- "Each end is, bit for bit, a former end or a step asked in that iteration with its answer."
+-- p is one of these points
 pub data OneOf (p : Point) : List Point → Type 0 where
   here : {ps : List Point} → OneOf p (p ∷ ps)
   there : {q : Point} {ps : List Point} → OneOf p ps → OneOf p (q ∷ ps)
 
+-- "a former end or a step asked in that iteration with its answer"
 pub data Came-from (w : Bracket) (asked : List Point) (p : Point) : Type 0 where
   former-low : p ≡ w .a → Came-from w asked p
   former-high : p ≡ w .b → Came-from w asked p
@@ -65,16 +64,18 @@ pub record Whole (s : Setup) (p : Summary) (asked : List Point) (q : Summary) : 
   -- "low step < high step, and it lies within the former bracket": whatever the slopes are
   pub ordered : Ordered (q .bracket)
   pub narrows : Within (p .bracket) (q .bracket)
+  -- "Each end is, bit for bit, a former end or a step asked in that iteration with its answer."
   pub low-from : Came-from (p .bracket) asked (q .bracket .a)
   pub high-from : Came-from (p .bracket) asked (q .bracket .b)
   -- "an iteration takes at most 3+3B answers"
   pub few : length asked ≤ 3 + 3 * s .options .budget
 
 -- what one answer brings: the report as it was; the first, with the start; or an iteration finished, and counted
-pub data Brings (P : Summary → List Point → Summary → Type 0) (asked : List Point) : Report → Report → Type 0 where
-  as-before : {k : Report} → Brings P asked k k
-  first : {q : Summary} → q .iterations ≡ 0 → Brings P asked noneYet (last q)
-  finished-one : {p q : Summary} → q .iterations ≡ p .iterations + 1 → P p asked q → Brings P asked (last p) (last q)
+pub data Brings (s : Setup) (asked : List Point) : Report → Report → Type 0 where
+  as-before : {k : Report} → Brings s asked k k
+  first : {q : Summary} → q .iterations ≡ 0 → Brings s asked noneYet (last q)
+  finished-one : {p q : Summary} → q .iterations ≡ p .iterations + 1 → Whole s p asked q
+      → Brings s asked (last p) (last q)
 
 -- ---- where an iteration on w stands once these points are asked: at a bracket, or in U3 with its ends
 
