@@ -1,4 +1,5 @@
 // Runs the job on standard input, and writes what its search tells to standard output, a line for each outcome.
+
 use curves::Curve;
 use hagerzhang::Turn;
 use jobs::Opened;
