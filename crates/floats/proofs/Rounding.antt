@@ -41,7 +41,7 @@ fits-says f s m e t =
 pow-le-back : (i j : ℕ) → 2 ^ i ≤ 2 ^ j → i ≤ j
 pow-le-back i j h = le-of-suc-le-suc (lt-of-not-le (λ (g : suc j ≤ i). not-le-of-lt (pow-lt g) h))
 
--- m * 2 ^ e is q * 2 ^ j units
+-- m * 2 ^ e is m * 2 ^ j units, below the top
 abbrev pub Units : Format → ℕ → ℤ → Type 0
 Units f m e = (j : ℕ) × (m * 2 ^ j < 2 ^ (low f + suc (emax f))) × (m * up e * 2 ^ low f ≡ m * 2 ^ j * down e)
 
