@@ -1,5 +1,7 @@
-// Times Hager-Zhang: searches over the eight sample curves, one after the other, and prints the sum of all steps as its bits. With an argument 50 million
-// answers, without one a thousand. bench/twin.rs is the same in plain Rust, and bench/run compares the two.
+// Times Hager-Zhang: searches over the eight sample curves, one after the other, and prints the sum of all steps as its
+// bits. With an argument it gives 50 million answers, without one a thousand. bench/twin.rs is the same in plain Rust,
+// and bench/run compares the two.
+
 use curves::Curve;
 use curves::Known;
 use hagerzhang::Kept;

@@ -100,8 +100,8 @@ pub(crate) fn answered(current: Current, y: Reply) -> Told {
 pub(crate) fn closed(out: &mut [u8], at: usize, current: Current) -> usize {
     match current {
         Current::Free => at,
-        Current::NoSearch => lines::none(out, at, Evaluations(0), Iterations(0)),
+        Current::NoSearch => lines::no_bracket(out, at, Evaluations(0), Iterations(0)),
         Current::HagerZhang(s) => lines::closing(out, at, s),
-        Current::Backtracks(s) => lines::none(out, at, s.evaluations, s.iterations),
+        Current::Backtracks(s) => lines::no_bracket(out, at, s.evaluations, s.iterations),
     }
 }

@@ -20,6 +20,7 @@ pub enum Checked {
 }
 
 impl Condition {
+    // 01, of NaN constants: "we refuse it (2)."
     pub fn constants_finite(self) -> bool
         ensures { λ r. ⌜ r ≡ constantsFinite self ⌝ }
     {
@@ -31,6 +32,7 @@ impl Condition {
         }
     }
 
+    // 01: "Armijo c in (0, 1); Goldstein c in (0, 0.5); Wolfe and strong Wolfe 0 < c1 < c2 < 1."
     pub fn in_range(self) -> bool
         ensures { λ r. ⌜ r ≡ inRange self ⌝ }
     {
@@ -42,6 +44,7 @@ impl Condition {
         }
     }
 
+    // Refusal 2 before refusal 3.
     pub fn checked(self) -> Checked
         ensures { λ r. ⌜ CheckedSaid self r ⌝ }
     {
@@ -54,6 +57,7 @@ impl Condition {
         Checked::Fit(self)
     }
 
+    // 01: "Only the Wolfe pair needs a slope at t."
     pub fn needs_slope(self) -> bool
         ensures { λ r. ⌜ r ≡ needsSlope self ⌝ }
     {
@@ -65,7 +69,7 @@ impl Condition {
         }
     }
 
-    // Whether those numbers of an answer are finite that the condition needs.
+    // 01: "An answer counts as finite when the numbers its condition needs are finite."
     pub fn answer_finite(self, f: f64, s: f64) -> bool
         ensures { λ r. ⌜ r ≡ answerFinite self f s ⌝ }
     {

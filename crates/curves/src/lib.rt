@@ -63,6 +63,7 @@ pub enum Known {
     Unknown(Refusal),
 }
 
+// 01: "small signed integers cast to f64 where nothing is lost".
 fn entry(i: usize) -> f64
     requires { ⌜ i < 40 ⌝ }
     ensures { λ r. ⌜ r ≡ entryOf i ⌝ }
@@ -70,6 +71,7 @@ fn entry(i: usize) -> f64
     TABLE[i] as f64
 }
 
+// The curve whose c0 is the table's entry i.
 fn curve_at(i: usize) -> Curve
     requires { ⌜ i < 36 ⌝ }
     ensures { λ r. ⌜ r ≡ curveAt i ⌝ }
@@ -97,14 +99,14 @@ pub fn numbered(n: u32) -> Known
 }
 
 impl Curve {
-    // The cost at x.
+    // The cost at x. 01: "Value: (((c4*x+c3)*x+c2)*x+c1)*x+c0."
     pub fn value(self, x: f64) -> f64
         ensures { λ r. ⌜ r ≡ valueOf self x ⌝ }
     {
         (((self.c4 * x + self.c3) * x + self.c2) * x + self.c1) * x + self.c0
     }
 
-    // The slope at x.
+    // The slope at x. 01: "Slope: ((4c4*x+3c3)*x+2c2)*x+c1."
     pub fn slope(self, x: f64) -> f64
         ensures { λ r. ⌜ r ≡ slopeOf self x ⌝ }
     {

@@ -1,5 +1,6 @@
--- The three facts about `lt` and `le` of floats from which the laws of Order.antt follow: `le` is transitive, `lt` excludes the converse `le`,
--- and where `lt` fails between two values that are no NaN the converse `le` holds. Assumes nothing.
+-- The three facts about `lt` and `le` of floats from which the laws of Order.antt follow: `le` is transitive, `lt`
+-- excludes the converse `le`, and where `lt` fails between two values that are no NaN the converse `le` holds. Assumes
+-- nothing.
 use mathlib.Core.Bool.{true, false, not}
 use Prim.Native.Nat.{_*_}
 use lib.Dec.{T}
@@ -46,8 +47,10 @@ trans (fin s m e) (fin t n d) (inf true) h k = absurd k
 trans (fin s m e) (fin t n d) (inf false) h k = tt
 trans (fin s m e) (fin t n d) (fin u o g) h k =
     at-most-test s u (m * up e * down g) (o * up g * down e)
-    (at-most-trans s t u (m * up e) (n * up d) (o * up g) (down e) (down d) (down g) (down-pos e) (down-pos d) (down-pos g)
-    (at-most-says s t (m * up e * down d) (n * up d * down e) h) (at-most-says t u (n * up d * down g) (o * up g * down d) k))
+    (at-most-trans s t u (m * up e) (n * up d) (o * up g) (down e) (down d) (down g)
+    (down-pos e) (down-pos d) (down-pos g)
+    (at-most-says s t (m * up e * down d) (n * up d * down e) h)
+    (at-most-says t u (n * up d * down g) (o * up g * down d) k))
 
 pub excludes : (x y : Float) → T (lt x y) → T (le y x) → ⊥
 unfolding lt le

@@ -1,20 +1,25 @@
--- Two facts about computed sums and products, on which a start that brackets rests: x ≤ x + e for e ≥ 0, so a cost is never above the level L
--- that adds an allowance to it; and x < 5 x for x > 0 while 5 x is finite, so a growing step does grow. Assumes nothing.
+-- Two facts about computed sums and products, on which a start that brackets rests: x ≤ x + e for e ≥ 0, so a cost is
+-- never above the level L that adds an allowance to it; and x < 5 x for x > 0 while 5 x is finite, so a growing step
+-- does grow. Assumes nothing.
 use mathlib.Core.Path.{_≡_, refl, sym, ap, _∙_, subst}
 use mathlib.Core.Logic.{_⊎_, inl, inr}
 use mathlib.Core.Bool.{Bool, true, false, not, _&&_, cond}
 use Prim.Native.Nat.{ℕ, zero, suc, _+_, _-_, _*_, _^_, _≤_, _<_}
-use native.Mathlib.Nat.{le-trans, le-of-eq, mul-one, zero-mul, mul-comm, mul-assoc, mul-left-comm, mul-right-comm, mul-lt-mul-of-pos-right, mul-le-mul-right, le-of-mul-le-mul-right, mul-pos, zero-lt-suc, pow-succ', lt-of-mul-lt-mul-right}
+use native.Mathlib.Nat.{le-trans, le-of-eq, zero-lt-suc, mul-pos, mul-le-mul-right, mul-lt-mul-of-pos-right}
+use native.Mathlib.Nat.{le-of-mul-le-mul-right, lt-of-mul-lt-mul-right}
+use native.Mathlib.Nat.{mul-one, zero-mul, mul-comm, mul-assoc, mul-left-comm, mul-right-comm, pow-succ'}
 use native.Mathlib.Omega.{arith}
 use lib.Dec.{T, lt→ltb, ltb, ltb→lt, nltb→le}
 use lib.IntN.{ℤ, pos}
 use lib.Pow.{pow-add, pow-pos}
-use lib.Ieee.{Float, nan, inf, fin, Format, binary32, binary64, emax, low, up, down, round, sum, add, mul, lt, le, fits, isNan, ofBits}
+use lib.Ieee.{Float, nan, inf, fin, Format, binary32, binary64, emax, low, up, down, fits, isNan, ofBits}
+use lib.Ieee.{round, sum, add, mul, lt, le}
 use lib.Ieee.Fits.{down-pos, up-pos}
 use lib.Ieee.Exact.{HasValue, round-exact}
 use lib.Ieee.Order.{round-mono}
 use lib.Ieee.Bits.{is-true}
-use lib.Ieee.Positive.{num, den, positive, den-pos, own-value, positive-of-value, values-of-le, le→cross, mul-at, first-pos}
+use lib.Ieee.Positive.{num, den, positive, den-pos, first-pos}
+use lib.Ieee.Positive.{own-value, positive-of-value, values-of-le, le→cross, mul-at}
 use lib.Ieee.Scale.{finite}
 use Rattle.floats.specs.Arithmetic.{_⊕_, _⊗_, _<ᶠ_, _≤ᶠ_, 0ᶠ}
 use Rattle.floats.proofs.Tests.{yes, no, yes-or-no}
@@ -24,23 +29,25 @@ use Rattle.floats.proofs.Order.{finite→real}
 use Rattle.floats.proofs.Rounding.{le-values, round-own, round-le, fits-says, units-of}
 
 -- ---- a sum with a value that is not negative
--- ±a plus a ±b that is not negative is ±w, which is no smaller than ±a
-abbrev Up : Format → Bool → ℕ → Bool → ℕ → ℕ → Type 0
-Up f s a t b c = (u : Bool) × (w : ℕ) × (sum f s a t b c ≡ round f u w c) × AtMost s a u w
+-- r is ±w / c, rounded, and ±w is no smaller than ±a
+abbrev Up : Format → Bool → ℕ → ℕ → Float → Type 0
+Up f s a c r = (u : Bool) × (w : ℕ) × (r ≡ round f u w c) × AtMost s a u w
 
-sum-up : (f : Format) (s t : Bool) (a b c : ℕ) → AtMost false 0 t b → Up f s a t b c
+-- so is ±a plus a ±b that is not negative
+sum-up : (f : Format) (s t : Bool) (a b c : ℕ) → AtMost false 0 t b → Up f s a c (sum f s a t b c)
 unfolding sum
 sum-up f false false a b c h = (false, a + b, refl, omega arith)
 sum-up f true true a b c h = (true, a + b, refl, let e = h .1 in omega arith)
 sum-up f true false a b c h = go (ltb a b) (ltb b a)
   where
-    go : (p q : Bool) → (u : Bool) × (w : ℕ) × (cond p (round f false (b - a) c) (round f (true && q) (a - b) c) ≡ round f u w c) × AtMost true a u w
+    go : (p q : Bool) → Up f true a c (cond p (round f false (b - a) c) (round f (true && q) (a - b) c))
     go true q = (false, b - a, refl, tt)
     go false true = (true, a - b, refl, omega arith)
     go false false = (false, a - b, refl, tt)
 sum-up f false true a b c h = go (ltb a b) (ltb→lt a b)
   where
-    go : (p : Bool) → (T p → a < b) → (u : Bool) × (w : ℕ) × (cond p (round f true (b - a) c) (round f (false && ltb b a) (a - b) c) ≡ round f u w c) × AtMost false a u w
+    go : (p : Bool) → (T p → a < b)
+        → Up f false a c (cond p (round f true (b - a) c) (round f (false && ltb b a) (a - b) c))
     go true k = let l = k tt in let e = h .1 in absurd (omega arith)
     go false k = (false, a - b, refl, let e = h .1 in omega arith)
 
@@ -49,21 +56,27 @@ not-negative : (t : Bool) (y k : ℕ) → AtMost false 0 t (y * 1) → AtMost fa
 not-negative false y k h = omega arith
 not-negative true y k h = (refl, zero-times y k (zero-of y 1 (omega arith) (h .1)))
 
-up-fin : (f : Format) (s : Bool) (m : ℕ) (e : ℤ) (t : Bool) (n : ℕ) (d : ℤ) → T (fits f (fin s m e)) → AtMost false 0 t (n * up d * 1) → T (le (fin s m e) (add f (fin s m e) (fin t n d)))
+up-fin : (f : Format) (s : Bool) (m : ℕ) (e : ℤ) (t : Bool) (n : ℕ) (d : ℤ) → T (fits f (fin s m e))
+    → AtMost false 0 t (n * up d * 1) → T (le (fin s m e) (add f (fin s m e) (fin t n d)))
 unfolding add
 up-fin f s m e t n d F h =
     let x = fin s m e in
-    let a = m * up e * down d in
+    let v = m * up e in
+    let rounded = round f s v (down e) in
+    let a = v * down d in
     let c = down e * down d in
     let C : 0 < c = mul-pos (down-pos e) (down-pos d) in
     let z = sum-up f s t a (n * up d * down e) c (not-negative t (n * up d) (down e) h) in
-    let own : T (le x (round f s (m * up e) (down e))) =
-    le-values x (round f s (m * up e) (down e)) s s (m * up e) (down e) (m * up e) (down e) (down-pos e) (down-pos e) (refl, refl) (round-own f s m e F) (at-most-refl s (m * up e * down e)) in
-    let near : AtMost s (m * up e * c) (z .0) (z .1 * down e) =
-    subst (λ (k : ℕ). AtMost s k (z .0) (z .1 * down e)) (mul-assoc (m * up e) (down d) (down e) ∙ ap (λ (k : ℕ). m * up e * k) (mul-comm (down d) (down e)))
-    (at-most-scale s (z .0) a (z .1) (down e) (z .3)) in
-    subst (λ (y : Float). T (le x y)) (sym (z .2))
-    (trans x (round f s (m * up e) (down e)) (round f (z .0) (z .1) c) own (round-le f s (z .0) (m * up e) (down e) (z .1) c (down-pos e) C near))
+    let own : T (le x rounded) =
+    le-values x rounded s s v (down e) v (down e) (down-pos e) (down-pos e) (refl, refl) (round-own f s m e F)
+    (at-most-refl s (v * down e)) in
+    let swap : a * down e ≡ v * c =
+    mul-assoc v (down d) (down e) ∙ ap (λ (k : ℕ). v * k) (mul-comm (down d) (down e)) in
+    let near : AtMost s (v * c) (z .0) (z .1 * down e) =
+    subst (λ (k : ℕ). AtMost s k (z .0) (z .1 * down e)) swap (at-most-scale s (z .0) a (z .1) (down e) (z .3)) in
+    let higher : T (le rounded (round f (z .0) (z .1) c)) =
+    round-le f s (z .0) v (down e) (z .1) c (down-pos e) C near in
+    subst (λ (y : Float). T (le x y)) (sym (z .2)) (trans x rounded (round f (z .0) (z .1) c) own higher)
 
 up-of : (f : Format) (x y : Float) → T (fits f x) → T (finite x) → T (le (fin false 0 (pos 0)) y) → T (le x (add f x y))
 unfolding le
@@ -73,7 +86,9 @@ up-of f (fin s m e) nan F p h = absurd h
 up-of f (fin s m e) (inf true) F p h = absurd h
 up-of f (fin s m e) (inf false) F p h = unfold add in tt
 up-of f (fin s m e) (fin t n d) F p h =
-    up-fin f s m e t n d F (subst (λ (k : ℕ). AtMost false k t (n * up d * 1)) (zero-mul (down d)) (at-most-says false t (0 * down d) (n * up d * 1) h))
+    let y = n * up d * 1 in
+    up-fin f s m e t n d F
+    (subst (λ (k : ℕ). AtMost false k t y) (zero-mul (down d)) (at-most-says false t (0 * down d) y h))
 
 -- x ≤ x + e for e ≥ 0, minus zero too. Where the sum overflows it is +infinity, which is no smaller either
 pub add-up : (x e : Float) → fits binary64 x ≡ true → finite x ≡ true → 0ᶠ ≤ᶠ e ≡ true → x ≤ᶠ x ⊕ e ≡ true
@@ -93,7 +108,8 @@ past-top (inf s) h p = p
 past-top (fin s m e) h p = h
 
 -- twice m * 2 ^ e is a value of the format, if it is below the top
-twice-val : (f : Format) (m : ℕ) (e : ℤ) → T (fits f (fin false (suc m) e)) → 2 * (suc m * up e) < 2 ^ suc (emax f) * down e
+twice-val : (f : Format) (m : ℕ) (e : ℤ) → T (fits f (fin false (suc m) e))
+    → 2 * (suc m * up e) < 2 ^ suc (emax f) * down e
     → HasValue (round f false (2 * (suc m * up e)) (down e)) false (2 * (suc m * up e)) (down e)
 twice-val f m e F h =
     let s = fits-says f false m e F in
@@ -101,23 +117,35 @@ twice-val f m e F h =
     let a = suc m * up e in
     let j = u .0 in
     let l = 2 ^ low f in
-    let twice : suc m * 2 ^ suc j ≡ 2 * (suc m * 2 ^ j) = ap (λ (k : ℕ). suc m * k) (pow-succ' 2 j) ∙ mul-left-comm (suc m) 2 (2 ^ j) in
-    let same : 2 * a * l ≡ suc m * 2 ^ suc j * down e = mul-assoc 2 a l ∙ ap (λ (k : ℕ). 2 * k) (u .2) ∙ sym (mul-assoc 2 (suc m * 2 ^ j) (down e)) ∙ ap (λ (k : ℕ). k * down e) (sym twice) in
-    let g : 2 * a * l < 2 ^ suc (emax f) * down e * l = mul-lt-mul-of-pos-right h (pow-pos (low f)) in
-    let g' : suc m * 2 ^ suc j * down e < 2 ^ (low f + suc (emax f)) * down e =
-    subst (λ (k : ℕ). k < 2 ^ (low f + suc (emax f)) * down e) same
-    (subst (λ (k : ℕ). 2 * a * l < k) (mul-right-comm (2 ^ suc (emax f)) (down e) l ∙ ap (λ (k : ℕ). k * down e) (mul-comm (2 ^ suc (emax f)) l ∙ sym (pow-add 2 (low f) (suc (emax f))))) g) in
-    round-exact f false (2 * a) (down e) (suc m) (suc j) (down-pos e) (s .digits) (lt-of-mul-lt-mul-right (down e) g') same
+    let t = 2 ^ suc (emax f) in
+    let top = 2 ^ (low f + suc (emax f)) in
+    let twice : suc m * 2 ^ suc j ≡ 2 * (suc m * 2 ^ j) =
+    ap (λ (k : ℕ). suc m * k) (pow-succ' 2 j) ∙ mul-left-comm (suc m) 2 (2 ^ j) in
+    let same : 2 * a * l ≡ suc m * 2 ^ suc j * down e =
+    mul-assoc 2 a l
+    ∙ ap (λ (k : ℕ). 2 * k) (u .2)
+    ∙ sym (mul-assoc 2 (suc m * 2 ^ j) (down e))
+    ∙ ap (λ (k : ℕ). k * down e) (sym twice) in
+    let tops : t * down e * l ≡ top * down e =
+    mul-right-comm t (down e) l
+    ∙ ap (λ (k : ℕ). k * down e) (mul-comm t l ∙ sym (pow-add 2 (low f) (suc (emax f)))) in
+    let g : 2 * a * l < t * down e * l = mul-lt-mul-of-pos-right h (pow-pos (low f)) in
+    let g' : suc m * 2 ^ suc j * down e < top * down e =
+    subst (λ (k : ℕ). k < top * down e) same (subst (λ (k : ℕ). 2 * a * l < k) tops g) in
+    round-exact f false (2 * a) (down e) (suc m) (suc j) (down-pos e) (s .digits)
+    (lt-of-mul-lt-mul-right (down e) g') same
 
 halve : (a : ℕ) → 0 < a → 2 * a ≤ a → ⊥
 halve a h k = omega arith
 
 -- w / c is twice x or more, and rounds to a finite r: then r ≤ x is absurd
-not-below-twice : (f : Format) (m : ℕ) (e : ℤ) (w c : ℕ) → T (fits f (fin false (suc m) e)) → 0 < c → 2 * (suc m * up e) * c ≤ w * down e
+not-below-twice : (f : Format) (m : ℕ) (e : ℤ) (w c : ℕ) → T (fits f (fin false (suc m) e)) → 0 < c
+    → 2 * (suc m * up e) * c ≤ w * down e
     → T (finite (round f false w c)) → T (le (round f false w c) (fin false (suc m) e)) → ⊥
 not-below-twice f m e w c F C big p k = go (yes-or-no (ltb (2 * (suc m * up e)) (2 ^ suc (emax f) * down e)))
   where
-    go : T (ltb (2 * (suc m * up e)) (2 ^ suc (emax f) * down e)) ⊎ T (not (ltb (2 * (suc m * up e)) (2 ^ suc (emax f) * down e))) → ⊥
+    go : T (ltb (2 * (suc m * up e)) (2 ^ suc (emax f) * down e))
+        ⊎ T (not (ltb (2 * (suc m * up e)) (2 ^ suc (emax f) * down e))) → ⊥
     go (inl q) =
         let a = suc m * up e in
         let A : 0 < a = mul-pos (zero-lt-suc m) (up-pos e) in
@@ -136,35 +164,44 @@ not-below-twice f m e w c F C big p k = go (yes-or-no (ltb (2 * (suc m * up e)) 
         let n' : t * c * down e ≤ w * 1 * down e =
         le-trans (le-of-eq (mul-right-comm t c (down e)))
         (le-trans (mul-le-mul-right c n) (le-trans big (le-of-eq (ap (λ (k : ℕ). k * down e) (sym (mul-one w)))))) in
-        past-top (round f false w c)
-        (subst (λ (z : Float). T (le z (round f false w c))) (top-inf f) (round-mono f t 1 w c (zero-lt-suc 0) C (le-of-mul-le-mul-right n' (down-pos e)))) p
+        let l = round-mono f t 1 w c (zero-lt-suc 0) C (le-of-mul-le-mul-right n' (down-pos e)) in
+        past-top (round f false w c) (subst (λ (z : Float). T (le z (round f false w c))) (top-inf f) l) p
 
-twice-lt : (f : Format) (x : Float) (w c : ℕ) → T (positive x) → T (fits f x) → 0 < c → 2 * num x * c ≤ w * den x → T (finite (round f false w c)) → T (lt x (round f false w c))
+twice-lt : (f : Format) (x : Float) (w c : ℕ) → T (positive x) → T (fits f x) → 0 < c → 2 * num x * c ≤ w * den x
+    → T (finite (round f false w c)) → T (lt x (round f false w c))
 twice-lt f nan w c P F C big p = absurd P
 twice-lt f (inf s) w c P F C big p = absurd P
 twice-lt f (fin true m e) w c P F C big p = absurd P
 twice-lt f (fin false zero e) w c P F C big p = absurd P
-twice-lt f (fin false (suc m) e) w c P F C big p = go (yes-or-no (lt (fin false (suc m) e) (round f false w c)))
-  where
-    go : T (lt (fin false (suc m) e) (round f false w c)) ⊎ T (not (lt (fin false (suc m) e) (round f false w c))) → T (lt (fin false (suc m) e) (round f false w c))
-    go (inl t) = t
-    go (inr n) = absurd (not-below-twice f m e w c F C big p (converse (round f false w c) (fin false (suc m) e) (no (finite→real (round f false w c) (is-true _ p))) (unfold isNan in tt) n))
+twice-lt f (fin false (suc m) e) w c P F C big p =
+    let x = fin false (suc m) e in
+    let r = round f false w c in
+    elim (yes-or-no (lt x r)) [
+      | inl t ↦ t
+      | inr n ↦
+          let real = no (finite→real r (is-true _ p)) in
+          absurd (not-below-twice f m e w c F C big p (converse r x real (unfold isNan in tt) n))
+    ]
 
 -- x < k x for x above 0 and k from 2 on, where the product is finite
-mul-grows : (f : Format) (k x : Float) → T (positive k) → T (positive x) → T (fits f x) → T (le (fin false 1 (pos 1)) k) → T (finite (mul f k x)) → T (lt x (mul f k x))
+mul-grows : (f : Format) (k x : Float) → T (positive k) → T (positive x) → T (fits f x)
+    → T (le (fin false 1 (pos 1)) k) → T (finite (mul f k x)) → T (lt x (mul f k x))
 mul-grows f k x K X F h p =
     let is = mul-at f k x (num k) (den k) (num x) (den x) K X (den-pos k) (den-pos x) (own-value k K) (own-value x X) in
     let two : 2 * den k ≤ num k * 1 = le→cross (fin false 1 (pos 1)) k tt K h in
     let big : 2 * num x * (den k * den x) ≤ num k * num x * den x =
     le-trans (le-of-eq (simp (mul-assoc, mul-comm, mul-left-comm)))
     (le-trans (mul-le-mul-right (num x * den x) two) (le-of-eq (simp (mul-one, mul-assoc)))) in
+    let p' = subst (λ (z : Float). T (finite z)) is p in
     subst (λ (z : Float). T (lt x z)) (sym is)
-    (twice-lt f x (num k * num x) (den k * den x) X F (mul-pos (den-pos k) (den-pos x)) big (subst (λ (z : Float). T (finite z)) is p))
+    (twice-lt f x (num k * num x) (den k * den x) X F (mul-pos (den-pos k) (den-pos x)) big p')
 
 -- a finite value above zero, by a test of the program
 above-zero : (n : ℕ) (d : ℤ) → T (ltb (0 * down d) (n * up d * 1)) → T (ltb 0 n)
 above-zero n d h =
-    lt→ltb 0 n (first-pos n (up d) (first-pos (n * up d) 1 (subst (λ (k : ℕ). k < n * up d * 1) (zero-mul (down d)) (ltb→lt (0 * down d) (n * up d * 1) h))))
+    let y = n * up d * 1 in
+    let Y : 0 < y = subst (λ (k : ℕ). k < y) (zero-mul (down d)) (ltb→lt (0 * down d) y h) in
+    lt→ltb 0 n (first-pos n (up d) (first-pos (n * up d) 1 Y))
 
 positive-by : (x : Float) → T (finite x) → T (lt (fin false 0 (pos 0)) x) → T (positive x)
 unfolding lt
@@ -178,6 +215,9 @@ abbrev pub 5ᶠ : Float
 5ᶠ = ofBits binary64 0x4014_0000_0000_0000
 
 -- x < 5 x for a finite x above 0, where 5 x is finite
-pub five-grows : (x : Float) → fits binary64 x ≡ true → finite x ≡ true → 0ᶠ <ᶠ x ≡ true → finite (5ᶠ ⊗ x) ≡ true → x <ᶠ 5ᶠ ⊗ x ≡ true
+pub five-grows : (x : Float) → fits binary64 x ≡ true → finite x ≡ true → 0ᶠ <ᶠ x ≡ true → finite (5ᶠ ⊗ x) ≡ true
+    → x <ᶠ 5ᶠ ⊗ x ≡ true
 unfolding ofBits
-five-grows x F p h q = is-true (x <ᶠ 5ᶠ ⊗ x) (mul-grows binary64 5ᶠ x tt (positive-by x (yes p) (yes h)) (yes F) (unfold le in tt) (yes q))
+five-grows x F p h q =
+    let X = positive-by x (yes p) (yes h) in
+    is-true (x <ᶠ 5ᶠ ⊗ x) (mul-grows binary64 5ᶠ x tt X (yes F) (unfold le in tt) (yes q))

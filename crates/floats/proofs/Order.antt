@@ -1,6 +1,6 @@
 -- The order of floats of any sign, as laws of the tests' outcomes (`x <ᶠ y ≡ true`), which is how a branch hands them
 -- over. A comparison that holds has no NaN in it, so transitivity and what follows from a test that held ask nothing
--- more; only the way from a test that FAILED to its converse asks that neither side is a NaN: at a NaN both tests fail,
+-- more. Only the way from a test that failed to its converse asks that neither side is a NaN: at a NaN both tests fail,
 -- which is how an old order once stayed in force. -0 and +0 are level. Assumes nothing.
 use mathlib.Core.Path.{_≡_, refl}
 use mathlib.Core.Logic.{_⊎_, inl, inr}

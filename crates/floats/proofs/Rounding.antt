@@ -1,9 +1,10 @@
--- `round` on fractions of either sign: it keeps the order, and a value that its format holds is what its own fraction rounds to. In either
--- format. Assumes nothing.
+-- `round` on fractions of either sign, in either format: it keeps the order, and a value that its format holds is what
+-- its own fraction rounds to. Assumes nothing.
 use mathlib.Core.Path.{_≡_, refl, sym, ap, _∙_, subst}
 use mathlib.Core.Bool.{Bool, true, false, not, _&&_, cond, false≢true, true≢false}
 use Prim.Native.Nat.{ℕ, zero, suc, _+_, _-_, _*_, _%_, _^_, _≤_, _<_}
-use native.Mathlib.Nat.{lt-of-not-le, not-le-of-lt, le-of-suc-le-suc, mul-one, zero-mul, mul-comm, mul-assoc, mul-lt-mul-of-pos-right}
+use native.Mathlib.Nat.{lt-of-not-le, not-le-of-lt, le-of-suc-le-suc, mul-lt-mul-of-pos-right}
+use native.Mathlib.Nat.{mul-one, zero-mul, mul-comm, mul-assoc}
 use lib.Dec.{T, ltb, leb, eqb, ltb→lt, leb→le, eqb→eq}
 use lib.IntN.{ℤ, pos, negsuc}
 use lib.Pow.{pow-add, pow-pos, pow-lt}
@@ -40,33 +41,43 @@ fits-says f s m e t =
 pow-le-back : (i j : ℕ) → 2 ^ i ≤ 2 ^ j → i ≤ j
 pow-le-back i j h = le-of-suc-le-suc (lt-of-not-le (λ (g : suc j ≤ i). not-le-of-lt (pow-lt g) h))
 
--- m * 2 ^ e is q * 2 ^ j units
+-- m * 2 ^ e is m * 2 ^ j units, below the top
 abbrev pub Units : Format → ℕ → ℤ → Type 0
 Units f m e = (j : ℕ) × (m * 2 ^ j < 2 ^ (low f + suc (emax f))) × (m * up e * 2 ^ low f ≡ m * 2 ^ j * down e)
 
 pub units-of : (f : Format) (m : ℕ) (e : ℤ) → down e ≤ 2 ^ low f → m * up e < 2 ^ suc (emax f) * down e → Units f m e
 units-of f m (pos k) D h =
     let l = low f in
-    let eq : m * 2 ^ k * 2 ^ l ≡ m * 2 ^ (k + l) = mul-assoc m (2 ^ k) (2 ^ l) ∙ ap (λ (x : ℕ). m * x) (sym (pow-add 2 k l)) in
-    let h' : m * 2 ^ k * 2 ^ l < 2 ^ suc (emax f) * 2 ^ l = mul-lt-mul-of-pos-right (subst (λ (x : ℕ). m * 2 ^ k < x) (mul-one (2 ^ suc (emax f))) h) (pow-pos l) in (
+    let t = 2 ^ suc (emax f) in
+    let eq : m * 2 ^ k * 2 ^ l ≡ m * 2 ^ (k + l) =
+    mul-assoc m (2 ^ k) (2 ^ l) ∙ ap (λ (x : ℕ). m * x) (sym (pow-add 2 k l)) in
+    let top : t * 2 ^ l ≡ 2 ^ (l + suc (emax f)) = mul-comm t (2 ^ l) ∙ sym (pow-add 2 l (suc (emax f))) in
+    let h' : m * 2 ^ k * 2 ^ l < t * 2 ^ l =
+    mul-lt-mul-of-pos-right (subst (λ (x : ℕ). m * 2 ^ k < x) (mul-one t) h) (pow-pos l) in (
       k + l,
-      subst (λ (x : ℕ). x < 2 ^ (l + suc (emax f))) eq (subst (λ (x : ℕ). m * 2 ^ k * 2 ^ l < x) (mul-comm (2 ^ suc (emax f)) (2 ^ l) ∙ sym (pow-add 2 l (suc (emax f)))) h'),
+      subst (λ (x : ℕ). x < 2 ^ (l + suc (emax f))) eq (subst (λ (x : ℕ). m * 2 ^ k * 2 ^ l < x) top h'),
       eq ∙ sym (mul-one (m * 2 ^ (k + l))),
     )
 units-of f m (negsuc k) D h =
     let l = low f in
     let j = l - suc k in
+    let t = 2 ^ suc (emax f) in
     let b : j + suc k ≡ l = back l (suc k) (pow-le-back (suc k) l D) in
-    let h' : m * 2 ^ j < 2 ^ suc (emax f) * 2 ^ suc k * 2 ^ j = mul-lt-mul-of-pos-right (subst (λ (x : ℕ). x < 2 ^ suc (emax f) * 2 ^ suc k) (mul-one m) h) (pow-pos j) in
-    let g : 2 ^ suc (emax f) * 2 ^ suc k * 2 ^ j ≡ 2 ^ (l + suc (emax f)) =
-    mul-assoc (2 ^ suc (emax f)) (2 ^ suc k) (2 ^ j)
-    ∙ ap (λ (x : ℕ). 2 ^ suc (emax f) * x) (mul-comm (2 ^ suc k) (2 ^ j) ∙ sym (pow-add 2 j (suc k)) ∙ ap (λ (x : ℕ). 2 ^ x) b)
-    ∙ mul-comm (2 ^ suc (emax f)) (2 ^ l)
-    ∙ sym (pow-add 2 l (suc (emax f))) in (
-      j,
-      subst (λ (x : ℕ). m * 2 ^ j < x) g h',
-      ap (λ (x : ℕ). x * 2 ^ l) (mul-one m) ∙ ap (λ (x : ℕ). m * 2 ^ x) (sym b) ∙ ap (λ (x : ℕ). m * x) (pow-add 2 j (suc k)) ∙ sym (mul-assoc m (2 ^ j) (2 ^ suc k)),
-    )
+    let h' : m * 2 ^ j < t * 2 ^ suc k * 2 ^ j =
+    mul-lt-mul-of-pos-right (subst (λ (x : ℕ). x < t * 2 ^ suc k) (mul-one m) h) (pow-pos j) in
+    let parts : 2 ^ suc k * 2 ^ j ≡ 2 ^ l =
+    mul-comm (2 ^ suc k) (2 ^ j) ∙ sym (pow-add 2 j (suc k)) ∙ ap (λ (x : ℕ). 2 ^ x) b in
+    let g : t * 2 ^ suc k * 2 ^ j ≡ 2 ^ (l + suc (emax f)) =
+    mul-assoc t (2 ^ suc k) (2 ^ j)
+    ∙ ap (λ (x : ℕ). t * x) parts
+    ∙ mul-comm t (2 ^ l)
+    ∙ sym (pow-add 2 l (suc (emax f))) in
+    let same : m * 1 * 2 ^ l ≡ m * 2 ^ j * 2 ^ suc k =
+    ap (λ (x : ℕ). x * 2 ^ l) (mul-one m)
+    ∙ ap (λ (x : ℕ). m * 2 ^ x) (sym b)
+    ∙ ap (λ (x : ℕ). m * x) (pow-add 2 j (suc k))
+    ∙ sym (mul-assoc m (2 ^ j) (2 ^ suc k)) in
+    (j, subst (λ (x : ℕ). m * 2 ^ j < x) g h', same)
 
 zero-units : (f : Format) (s : Bool) (c : ℕ) → 0 < c → HasValue (round f s 0 c) s 0 c
 zero-units f s c C =
@@ -74,15 +85,19 @@ zero-units f s c C =
     (zero-mul (2 ^ low f) ∙ sym (zero-mul c))
 
 -- a value that fits is what its own fraction rounds to
-pub round-own : (f : Format) (s : Bool) (m : ℕ) (e : ℤ) → T (fits f (fin s m e)) → HasValue (round f s (m * up e) (down e)) s (m * up e) (down e)
-round-own f s zero e t = subst (λ (x : ℕ). HasValue (round f s x (down e)) s x (down e)) (sym (zero-mul (up e))) (zero-units f s (down e) (down-pos e))
+pub round-own : (f : Format) (s : Bool) (m : ℕ) (e : ℤ) → T (fits f (fin s m e))
+    → HasValue (round f s (m * up e) (down e)) s (m * up e) (down e)
+round-own f s zero e t =
+    subst (λ (x : ℕ). HasValue (round f s x (down e)) s x (down e)) (sym (zero-mul (up e)))
+    (zero-units f s (down e) (down-pos e))
 round-own f s (suc m) e t =
     let z = fits-says f s m e t in
     let u = units-of f (suc m) e (z .fine) (z .small) in
     round-exact f s (suc m * up e) (down e) (suc m) (u .0) (down-pos e) (z .digits) (u .1) (u .2)
 
 -- ---- the order of values, by the fractions that they equal
-carry : (s t : Bool) (x y de dd a b c c' : ℕ) → 0 < de → 0 < dd → 0 < c → 0 < c' → x * c ≡ a * de → y * c' ≡ b * dd → AtMost s (a * c') t (b * c) → AtMost s (x * dd) t (y * de)
+carry : (s t : Bool) (x y de dd a b c c' : ℕ) → 0 < de → 0 < dd → 0 < c → 0 < c'
+    → x * c ≡ a * de → y * c' ≡ b * dd → AtMost s (a * c') t (b * c) → AtMost s (x * dd) t (y * de)
 carry false false x y de dd a b c c' E D C C' p q h = transfer x y de dd a b c c' C C' p q h
 carry false true x y de dd a b c c' E D C C' p q h = (
   zero-times x dd (zero-of x c C (p ∙ zero-times a de (zero-of a c' C' (h .0)))),
@@ -91,7 +106,8 @@ carry false true x y de dd a b c c' E D C C' p q h = (
 carry true false x y de dd a b c c' E D C C' p q h = tt
 carry true true x y de dd a b c c' E D C C' p q h = transfer y x dd de b a c' c C' C q p h
 
-pub le-values : (x y : Float) (s t : Bool) (a c b d : ℕ) → 0 < c → 0 < d → HasValue x s a c → HasValue y t b d → AtMost s (a * d) t (b * c) → T (le x y)
+pub le-values : (x y : Float) (s t : Bool) (a c b d : ℕ) → 0 < c → 0 < d
+    → HasValue x s a c → HasValue y t b d → AtMost s (a * d) t (b * c) → T (le x y)
 unfolding le
 le-values nan y s t a c b d C D p q h = absurd p
 le-values (inf s') y s t a c b d C D p q h = absurd p
@@ -113,7 +129,8 @@ units-neg : (f : Format) (q k : ℕ) → units f true q k ≡ neg (units f false
 unfolding units
 units-neg f q k = go (ltb (q * 2 ^ k) (2 ^ (low f + suc (emax f))))
   where
-    go : (b : Bool) → cond b (odd (suc (prec f)) true q k (low f)) (inf true) ≡ neg (cond b (odd (suc (prec f)) false q k (low f)) (inf false))
+    go : (b : Bool) → cond b (odd (suc (prec f)) true q k (low f)) (inf true)
+        ≡ neg (cond b (odd (suc (prec f)) false q k (low f)) (inf false))
     go true = odd-neg (suc (prec f)) q k (low f)
     go false = unfold neg in refl
 
@@ -134,7 +151,9 @@ neg-le (fin s m e) nan h = absurd h
 neg-le (fin s m e) (inf true) h = absurd h
 neg-le (fin s m e) (inf false) h = tt
 neg-le (fin s m e) (fin t n d) h =
-    at-most-test (not t) (not s) (n * up d * down e) (m * up e * down d) (at-most-flip s t (m * up e * down d) (n * up d * down e) (at-most-says s t (m * up e * down d) (n * up d * down e) h))
+    let a = m * up e * down d in
+    let b = n * up d * down e in
+    at-most-test (not t) (not s) b a (at-most-flip s t a b (at-most-says s t a b h))
 
 -- ---- a result's sign is the sign that was asked
 abbrev Signed : Bool → Float → Type 0
@@ -177,12 +196,14 @@ across (fin true m e) (fin false n d) p q = at-most-test true false (m * up e * 
 zero-val : (f : Format) (s : Bool) (a c : ℕ) → 0 < c → a ≡ 0 → HasValue (round f s a c) s a c
 zero-val f s a c C e = subst (λ (x : ℕ). HasValue (round f s x c) s x c) (sym e) (zero-units f s c C)
 
-pub round-le : (f : Format) (s t : Bool) (a b c d : ℕ) → 0 < b → 0 < d → AtMost s (a * d) t (c * b) → T (le (round f s a b) (round f t c d))
+pub round-le : (f : Format) (s t : Bool) (a b c d : ℕ) → 0 < b → 0 < d → AtMost s (a * d) t (c * b)
+    → T (le (round f s a b) (round f t c d))
 round-le f false false a b c d B D h = round-mono f a b c d B D h
 round-le f false true a b c d B D h =
     le-values (round f false a b) (round f true c d) false true a b c d B D
     (zero-val f false a b B (zero-of a d D (h .0))) (zero-val f true c d D (zero-of c b B (h .1))) h
-round-le f true false a b c d B D h = across (round f true a b) (round f false c d) (round-signed f true a b) (round-signed f false c d)
+round-le f true false a b c d B D h =
+    across (round f true a b) (round f false c d) (round-signed f true a b) (round-signed f false c d)
 round-le f true true a b c d B D h =
     subst (λ (z : Float). T (le z (round f true c d))) (sym (round-neg f a b))
     (subst (λ (z : Float). T (le (neg (round f false a b)) z)) (sym (round-neg f c d))

@@ -1,10 +1,11 @@
--- ±a < ±b and ±a ≤ ±b for natural numbers with a sign, as facts and as the tests that `lt` and `le` of floats come to; and the order of
--- signed fractions is transitive. +0 and -0 are level. Assumes nothing.
+-- ±a < ±b and ±a ≤ ±b for natural numbers with a sign, as facts and as the tests that `lt` and `le` of floats come to.
+-- +0 and -0 are level, and the order of signed fractions is transitive. Assumes nothing.
 use mathlib.Core.Path.{_≡_, sym, ap, _∙_}
 use mathlib.Core.Logic.{inl, inr}
 use mathlib.Core.Bool.{Bool, true, false, not, _&&_, _||_}
 use Prim.Native.Nat.{ℕ, _+_, _*_, _≤_, _<_}
-use native.Mathlib.Nat.{eq-or-lt-of-le, eq-zero-or-pos, le-of-lt, le-of-eq, le-refl, zero-mul, mul-pos, mul-le-mul-right}
+use native.Mathlib.Nat.{eq-or-lt-of-le, eq-zero-or-pos, le-of-lt, le-of-eq, le-refl}
+use native.Mathlib.Nat.{zero-mul, mul-pos, mul-le-mul-right}
 use native.Mathlib.Omega.{arith}
 use lib.Dec.{T, ltb, eqb, ltb→lt, lt→ltb, nltb→le, eqb→eq}
 use lib.Ieee.{below, level}
@@ -40,26 +41,39 @@ not-below-says true false a b h = tt
 not-below-says true true a b h = nltb→le a b h
 
 pub at-most-says : (s t : Bool) (a b : ℕ) → T (below s a t b || level s a t b) → AtMost s a t b
-at-most-says false false a b h = elim (or-split (ltb a b) (eqb a b && true) h) [ inl u ↦ le-of-lt (ltb→lt a b u) | inr u ↦ le-of-eq (eqb→eq a b (and-l (eqb a b) true u)) ]
+at-most-says false false a b h = elim (or-split (ltb a b) (eqb a b && true) h) [
+  | inl u ↦ le-of-lt (ltb→lt a b u)
+  | inr u ↦ le-of-eq (eqb→eq a b (and-l (eqb a b) true u))
+]
 at-most-says false true a b h =
     let z = eqb→eq a 0 (and-r (eqb a b) (eqb a 0) h) in
     (z, sym (eqb→eq a b (and-l (eqb a b) (eqb a 0) h)) ∙ z)
 at-most-says true false a b h = tt
-at-most-says true true a b h = elim (or-split (ltb b a) (eqb a b && true) h) [ inl u ↦ le-of-lt (ltb→lt b a u) | inr u ↦ le-of-eq (sym (eqb→eq a b (and-l (eqb a b) true u))) ]
+at-most-says true true a b h = elim (or-split (ltb b a) (eqb a b && true) h) [
+  | inl u ↦ le-of-lt (ltb→lt b a u)
+  | inr u ↦ le-of-eq (sym (eqb→eq a b (and-l (eqb a b) true u)))
+]
 
 both-zero : (a b : ℕ) → a + b ≡ 0 → (a ≡ 0) × (b ≡ 0)
 both-zero a b e = (omega arith, omega arith)
 
 pub at-most-test : (s t : Bool) (a b : ℕ) → AtMost s a t b → T (below s a t b || level s a t b)
-at-most-test false false a b h = elim (eq-or-lt-of-le h) [ inl p ↦ or-r (ltb a b) (eqb a b && true) (and-i (eqb a b) true (eq→eqb p) tt) | inr q ↦ or-l (ltb a b) (eqb a b && true) (lt→ltb a b q) ]
+at-most-test false false a b h = elim (eq-or-lt-of-le h) [
+  | inl p ↦ or-r (ltb a b) (eqb a b && true) (and-i (eqb a b) true (eq→eqb p) tt)
+  | inr q ↦ or-l (ltb a b) (eqb a b && true) (lt→ltb a b q)
+]
 at-most-test false true a b h = and-i (eqb a b) (eqb a 0) (eq→eqb (h .0 ∙ sym (h .1))) (eq→eqb (h .0))
 at-most-test true false a b h = elim (eq-zero-or-pos (a + b)) [
   | inl z ↦
       let zs = both-zero a b z in
-      or-r (ltb 0 (a + b)) (eqb a b && eqb a 0) (and-i (eqb a b) (eqb a 0) (eq→eqb (zs .0 ∙ sym (zs .1))) (eq→eqb (zs .0)))
+      let same = eq→eqb (zs .0 ∙ sym (zs .1)) in
+      or-r (ltb 0 (a + b)) (eqb a b && eqb a 0) (and-i (eqb a b) (eqb a 0) same (eq→eqb (zs .0)))
   | inr p ↦ or-l (ltb 0 (a + b)) (eqb a b && eqb a 0) (lt→ltb 0 (a + b) p)
 ]
-at-most-test true true a b h = elim (eq-or-lt-of-le h) [ inl p ↦ or-r (ltb b a) (eqb a b && true) (and-i (eqb a b) true (eq→eqb (sym p)) tt) | inr q ↦ or-l (ltb b a) (eqb a b && true) (lt→ltb b a q) ]
+at-most-test true true a b h = elim (eq-or-lt-of-le h) [
+  | inl p ↦ or-r (ltb b a) (eqb a b && true) (and-i (eqb a b) true (eq→eqb (sym p)) tt)
+  | inr q ↦ or-l (ltb b a) (eqb a b && true) (lt→ltb b a q)
+]
 
 pub clash : (s t : Bool) (a b : ℕ) → Below s a t b → AtMost t b s a → ⊥
 clash false false a b h k = omega arith
@@ -69,7 +83,10 @@ clash true true a b h k = omega arith
 
 -- ---- AtMost under a common factor, and through a middle fraction
 pub zero-of : (a k : ℕ) → 0 < k → a * k ≡ 0 → a ≡ 0
-zero-of a k K e = elim (eq-zero-or-pos a) [ inl z ↦ z | inr p ↦ absurd (let h : 0 < a * k = mul-pos p K in omega arith) ]
+zero-of a k K e = elim (eq-zero-or-pos a) [
+  | inl z ↦ z
+  | inr p ↦ absurd (let h : 0 < a * k = mul-pos p K in omega arith)
+]
 
 pub zero-times : (a k : ℕ) → a ≡ 0 → a * k ≡ 0
 zero-times a k e = ap (λ (n : ℕ). n * k) e ∙ zero-mul k
@@ -91,7 +108,8 @@ at-most-scale true false a b k h = tt
 at-most-scale true true a b k h = mul-le-mul-right k h
 
 -- ±x / p ≤ ±y / q ≤ ±z / r, each as a product across
-pub at-most-trans : (s t u : Bool) (x y z p q r : ℕ) → 0 < p → 0 < q → 0 < r → AtMost s (x * q) t (y * p) → AtMost t (y * r) u (z * q) → AtMost s (x * r) u (z * p)
+pub at-most-trans : (s t u : Bool) (x y z p q r : ℕ) → 0 < p → 0 < q → 0 < r
+    → AtMost s (x * q) t (y * p) → AtMost t (y * r) u (z * q) → AtMost s (x * r) u (z * p)
 at-most-trans false false false x y z p q r P Q R h k = through x y z p q r Q h k
 at-most-trans false false true x y z p q r P Q R h k =
     let e : y * p ≡ 0 = zero-times y p (zero-of y r R (k .0)) in

@@ -1,7 +1,7 @@
--- f64's operators as 01 writes its formulas: "every operation rounded once, grouped as written here". Each is the language's own operator at
--- binary64 under a sign that reads like arithmetic: rounded to the nearest float, ties to even. A comparison is a test: where a NaN stands it is false, and -0.0 and +0.0
--- are equal to it.
--- `finite` is the library's (lib.Ieee.Scale): false at a NaN and at both infinities, true at every other value.
+-- f64's operators as 01 writes its formulas: "every operation rounded once, grouped as written here". Each is the
+-- language's own operator at binary64, rounded to the nearest float, ties to even, under a sign that reads like
+-- arithmetic. A comparison is a test: where a NaN stands it is false, and -0.0 and +0.0 are equal to it. `finite` is
+-- the library's (lib.Ieee.Scale): false at a NaN and at both infinities, true at every other value.
 use mathlib.Core.Bool.{Bool}
 use lib.Ieee.{Float, binary64, ofBits, add, sub, mul, div, lt, le}
 

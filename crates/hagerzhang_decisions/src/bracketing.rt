@@ -9,7 +9,10 @@ ghost use mathlib.Core.Path.{_≡_};
 ghost use Rattle.hagerzhang_rules.specs.Rules.{middleOf, narrowedOf, secantOf, isNear, S2, S3, S4, orElse, L2};
 ghost use Rattle.hagerzhang_decisions.specs.Decisions.{updatedOf};
 
-// U0 to U2; U3 goes on from the low end.
+// 01, "Update of (a, b) with c". U0: "c.x <= a.x or c.x >= b.x: unchanged." U1: "c.g >= 0 (minus zero too): (a, c)."
+// U2: "c.g < 0, c.f <= L: (c, b)." U3: "c.g < 0, c.f > L: ends h = a, k = c.x", and goes on. That c.g < 0 and c.f > L
+// is not tested again: a search comes here with finite numbers, and where the tests before fail these hold (`decides`,
+// proofs/Decides.antt).
 pub fn updated(level: f64, w: Bracket, c: Point) -> Came
     ensures { λ r. ⌜ r ≡ updatedOf level w c ⌝ }
 {
@@ -27,14 +30,14 @@ pub fn updated(level: f64, w: Bracket, c: Point) -> Came
     Came::On(a, c.x)
 }
 
-// The step that U3 asks between its ends.
+// 01, U3: "Ask d.x = (1-theta)*h.x + theta*k."
 pub fn middle(theta: f64, h: Point, k: f64) -> f64
     ensures { λ r. ⌜ r ≡ middleOf theta h k ⌝ }
 {
     (1.0 - theta) * h.x + theta * k
 }
 
-// U3 by its answer d.
+// 01, U3 by its answer: "If d.g >= 0: (h, d). Else if d.f <= L: h = d. Else k = d.x. Repeat."
 pub fn narrowed(level: f64, h: Point, k: f64, d: Point) -> Came
     ensures { λ r. ⌜ r ≡ narrowedOf level h k d ⌝ }
 {
@@ -47,18 +50,23 @@ pub fn narrowed(level: f64, h: Point, k: f64, d: Point) -> Came
     Came::On(h, d.x)
 }
 
+// 01: "Secant(p, q) = (p.x*q.g - q.x*p.g)/(q.g - p.g)."
 pub fn secant(p: Point, q: Point) -> f64
     ensures { λ r. ⌜ r ≡ secantOf p q ⌝ }
 {
     (p.x * q.g - q.x * p.g) / (q.g - p.g)
 }
 
+// 01, S2 and S3: "|c.x - Z.x| < EPS"; "EPS = 2^-52".
 fn is_near(x: f64, y: f64) -> bool
     ensures { λ r. ⌜ r ≡ isNear x y ⌝ }
 {
     numbers::abs(x - y) < 2.220446049250313e-16
 }
 
+// ---- 01, "Iteration on (a, b)": w is (a, b), c is c.x, and u is (A, Z)
+
+// "S2: if |c.x - Z.x| < EPS, e = secant(b, Z)."
 fn s2(w: Bracket, c: f64, u: Bracket) -> Further
     ensures { λ r. ⌜ r ≡ S2 w c u ⌝ }
 {
@@ -68,6 +76,7 @@ fn s2(w: Bracket, c: f64, u: Bracket) -> Further
     Further::Nothing
 }
 
+// "S3: if |c.x - A.x| < EPS, e = secant(a, A), overwriting S2's."
 fn s3(w: Bracket, c: f64, u: Bracket) -> Further
     ensures { λ r. ⌜ r ≡ S3 w c u ⌝ }
 {
@@ -77,7 +86,7 @@ fn s3(w: Bracket, c: f64, u: Bracket) -> Further
     Further::Nothing
 }
 
-// The first of two further trials that there is.
+// e, where there is one; else d.
 fn or_else(e: Further, d: Further) -> Further
     ensures { λ r. ⌜ r ≡ orElse e d ⌝ }
 {
@@ -87,7 +96,7 @@ fn or_else(e: Further, d: Further) -> Further
     }
 }
 
-// S4's step: S3's, or else S2's.
+// "S4: if either held, ask e and update (A, Z) with it." The step e is S3's, which overwrites S2's.
 pub fn s4(w: Bracket, c: f64, u: Bracket) -> Further
     ensures { λ r. ⌜ r ≡ S4 w c u ⌝ }
 {
@@ -96,6 +105,7 @@ pub fn s4(w: Bracket, c: f64, u: Bracket) -> Further
     or_else(third, second)
 }
 
+// "L2: if Z.x - A.x > gamma*(b.x - a.x), ask (A.x + Z.x)/2 and update."
 pub fn l2(gamma: f64, w: Bracket, u: Bracket) -> Further
     ensures { λ r. ⌜ r ≡ L2 gamma w u ⌝ }
 {

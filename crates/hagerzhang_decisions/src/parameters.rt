@@ -5,7 +5,8 @@ use hagerzhang_rules::Params;
 ghost use mathlib.Core.Path.{_≡_};
 ghost use Rattle.hagerzhang_rules.specs.Parameters.{defaultOptions, paramsFinite, suppliedFinite, inRanges};
 
-// argmin's parameters, and a budget and a limit of 100.
+// 01: "delta 0.1, sigma 0.9 .. epsilon 1e-6 .. theta 0.5, gamma 0.66 .. eta 0.01 .. Bounds 2^-52 and 1e5 .. Start step
+// c: 1"; B and N: "(default 100)".
 pub fn defaults() -> Options
     ensures { λ r. ⌜ r ≡ defaultOptions ⌝ }
 {
@@ -26,7 +27,7 @@ pub fn defaults() -> Options
     }
 }
 
-// The parameters' own part of refusal 2.
+// 01, refusal 2: "a supplied number is NaN or infinite". Of the parameters alone, since a job supplies no more.
 pub fn params_finite(p: Params) -> bool
     ensures { λ r. ⌜ r ≡ paramsFinite p ⌝ }
 {
@@ -41,6 +42,7 @@ pub fn params_finite(p: Params) -> bool
     wolfe & epsilon & theta & gamma & eta & min & max & start
 }
 
+// Refusal 2 of a start: f0 and s0 are supplied too.
 pub fn supplied_finite(o: Options, f0: f64, s0: f64) -> bool
     ensures { λ r. ⌜ r ≡ suppliedFinite o f0 s0 ⌝ }
 {
@@ -50,18 +52,23 @@ pub fn supplied_finite(o: Options, f0: f64, s0: f64) -> bool
     params & cost & slope
 }
 
+// 01, refusal 3: "a parameter, B, N .. is outside its range".
 pub fn in_ranges(o: Options) -> bool
     ensures { λ r. ⌜ r ≡ inRanges o ⌝ }
 {
     let p = o.params;
+    // "0 < delta < 1, delta <= sigma < 1"
     let wolfe = (0.0 < p.delta) & (p.delta < 1.0) & (p.delta <= p.sigma) & (p.sigma < 1.0);
+    // "epsilon ..: >= 0. theta .., gamma ..: in (0, 1). eta ..: > 0"
     let factors = (0.0 <= p.epsilon)
         & (0.0 < p.theta)
         & (p.theta < 1.0)
         & (0.0 < p.gamma)
         & (p.gamma < 1.0)
         & (0.0 < p.eta);
+    // "0 <= min < max"
     let bounds = (0.0 <= p.min) & (p.min < p.max);
+    // "U3 budget B is 1 to 1,000 ..; iteration limit N is 1 to 10,000"
     let budget = (1 <= o.budget) & (o.budget <= 1000);
     let limit = (1 <= o.limit) & (o.limit <= 10000);
     wolfe & factors & bounds & (budget & limit)

@@ -1,11 +1,12 @@
--- The lines of the program `cases` beside those of outcomes and the closing ones. Each ends with a newline.
+-- docs/FORMATS.md, "What `cases` writes": a case's own lines. Each ends with a newline. (`POINT` has nothing behind it,
+-- and stands in the program itself.)
 use Prim.Native.Nat.{ℕ}
 use mathlib.Core.List.{List, [], _∷_}
 use lib.Ieee.{Float}
 use Rattle.text.specs.Text.{bytes}
 use Rattle.text.specs.Figures.{floatsLine, numberLine}
 
--- docs/FORMATS.md: `CASE k`, "k counts from 1"
+-- `CASE k`: "k counts from 1"
 abbrev pub headLine : ℕ → List ℕ
 headLine k = numberLine (bytes "CASE ") k
 

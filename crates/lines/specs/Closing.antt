@@ -1,4 +1,4 @@
--- docs/FORMATS.md: the three lines "when the search is left", with what the rules report of it.
+-- docs/FORMATS.md, "What `cases` writes": the three lines "when the search is left", with what the rules report of it.
 use Prim.Native.Nat.{ℕ}
 use mathlib.Core.List.{List, [], _∷_, _++_}
 use lib.Ieee.{Float}
@@ -12,8 +12,8 @@ abbrev pub pointFloats : Point → List Float
 pointFloats p = p .x ∷ p .f ∷ p .g ∷ []
 
 -- `BRACKET none`, `BEST none`, `COUNTS evaluations e iterations i`
-abbrev pub noneText : ℕ → ℕ → List ℕ
-noneText e i = bytes "BRACKET none\nBEST none\nCOUNTS" ++ countsText e i
+abbrev pub noBracketText : ℕ → ℕ → List ℕ
+noBracketText e i = bytes "BRACKET none\nBEST none\nCOUNTS" ++ countsText e i
 
 -- `BRACKET a.x a.f a.g b.x b.f b.g`, `BEST x f g`, and the counts
 abbrev pub lastText : Summary → ℕ → List ℕ
@@ -25,5 +25,5 @@ lastText p e =
 
 -- after e evaluations; `none` "before the three start answers are in"
 abbrev pub closingText : Report → ℕ → List ℕ
-closingText noneYet e = noneText e 0
+closingText noneYet e = noBracketText e 0
 closingText (last p) e = lastText p e

@@ -1,5 +1,6 @@
-// What the programs show, as lines of text, written into a lent buffer as the crate text does: an outcome, a case's own
-// lines, and the lines that close a search.
+// What the programs show, as lines of text: an outcome, a case's own lines, and the lines that close a search. Each
+// function writes into a lent buffer as those of the crate text do: at a place, as much as there is room for, and it
+// answers the place behind. docs/FORMATS.md has all lines; h stands there for a float's 64 bits in hex.
 
 use hagerzhang::Finished;
 use hagerzhang::Kept;
@@ -14,11 +15,11 @@ ghost use Rattle.text.specs.Text.{Writes, bytes};
 ghost use Rattle.hagerzhang.specs.Meaning.{lastOf, report};
 ghost use Rattle.lines.specs.Lines.{verdictText, countsText, stopLine, limitLine, refusedLine, outcomeLine};
 ghost use Rattle.lines.specs.CaseLines.{headLine, malformedLine, valueLine, bufferLine};
-ghost use Rattle.lines.specs.Closing.{noneText, closingText};
+ghost use Rattle.lines.specs.Closing.{noBracketText, closingText};
 
-// ---- an outcome
+// ---- an outcome: ASK, STOP, LIMIT or REFUSED
 
-// Both counts, and the line's end.
+// ` evaluations e iterations i`, with which a line ends.
 fn counts(out: &mut [u8], at: usize, e: Evaluations, i: Iterations) -> usize
     ensures { λ r. ⌜ Writes (now (out .entry)) at (countsText (e .0) (i .0)) (now (out .exit)) r ⌝ }
 {
@@ -27,13 +28,14 @@ fn counts(out: &mut [u8], at: usize, e: Evaluations, i: Iterations) -> usize
     text::number_line(out, q, b" iterations ", i.0 as u64)
 }
 
-// The line of the refusal n.
+// `REFUSED n`
 pub fn refused(out: &mut [u8], at: usize, n: u32) -> usize
     ensures { λ r. ⌜ Writes (now (out .entry)) at (refusedLine n) (now (out .exit)) r ⌝ }
 {
     text::number_line(out, at, b"REFUSED ", n as u64)
 }
 
+// `STOP word`, the beginning of a stop's line.
 fn verdict(out: &mut [u8], at: usize, v: Verdict) -> usize
     ensures { λ r. ⌜ Writes (now (out .entry)) at (bytes "STOP " ++ verdictText (verdictWord v)) (now (out .exit)) r ⌝ }
 {
@@ -44,6 +46,7 @@ fn verdict(out: &mut [u8], at: usize, v: Verdict) -> usize
     }
 }
 
+// `STOP word h evaluations e iterations i`
 fn stop(out: &mut [u8], at: usize, v: Verdict, x: f64, e: Evaluations, i: Iterations) -> usize
     ensures { λ r. ⌜ Writes (now (out .entry)) at (stopLine (verdictWord v) x (e .0) (i .0)) (now (out .exit)) r ⌝ }
 {
@@ -52,6 +55,7 @@ fn stop(out: &mut [u8], at: usize, v: Verdict, x: f64, e: Evaluations, i: Iterat
     counts(out, q, e, i)
 }
 
+// `LIMIT h evaluations e iterations i`
 fn limit(out: &mut [u8], at: usize, x: f64, e: Evaluations, i: Iterations) -> usize
     ensures { λ r. ⌜ Writes (now (out .entry)) at (limitLine x (e .0) (i .0)) (now (out .exit)) r ⌝ }
 {
@@ -60,7 +64,7 @@ fn limit(out: &mut [u8], at: usize, x: f64, e: Evaluations, i: Iterations) -> us
     counts(out, q, e, i)
 }
 
-// The line of an outcome, with the search's evaluations and iterations.
+// The line of an outcome; e and i are the search's counts. An ask is `ASK h`.
 pub fn outcome(out: &mut [u8], at: usize, o: Outcome, e: Evaluations, i: Iterations) -> usize
     ensures { λ r. ⌜ Writes (now (out .entry)) at (outcomeLine (told o) (e .0) (i .0)) (now (out .exit)) r ⌝ }
 {
@@ -72,46 +76,47 @@ pub fn outcome(out: &mut [u8], at: usize, o: Outcome, e: Evaluations, i: Iterati
     }
 }
 
-// ---- a case: its head, a vector's numbers, a malformed field
+// ---- a case's own lines
 
-// The head of case k.
+// `CASE k`, the head of the case with number k.
 pub fn head(out: &mut [u8], at: usize, k: u64) -> usize
     ensures { λ r. ⌜ Writes (now (out .entry)) at (headLine k) (now (out .exit)) r ⌝ }
 {
     text::number_line(out, at, b"CASE ", k)
 }
 
-// A field that began at byte b is malformed.
+// `MALFORMED at b`, of a field that began at byte b.
 pub fn malformed(out: &mut [u8], at: usize, b: u64) -> usize
     ensures { λ r. ⌜ Writes (now (out .entry)) at (malformedLine b) (now (out .exit)) r ⌝ }
 {
     text::number_line(out, at, b"MALFORMED at ", b)
 }
 
-// A dot's value.
+// `VALUE h`, of a dot.
 pub fn value(out: &mut [u8], at: usize, x: f64) -> usize
     ensures { λ r. ⌜ Writes (now (out .entry)) at (valueLine x) (now (out .exit)) r ⌝ }
 {
     text::floats_line(out, at, b"VALUE", &[x])
 }
 
-// A buffer's numbers.
+// `OUT h ..`, the numbers that a point's buffer holds.
 pub fn buffer(out: &mut [u8], at: usize, xs: &[f64]) -> usize
     ensures { λ r. ⌜ Writes (now (out .entry)) at (bufferLine (now (xs .entry))) (now (out .exit)) r ⌝ }
 {
     text::floats_line(out, at, b"OUT", xs)
 }
 
-// ---- what a search holds when it is left
+// ---- the three lines that close a search: its bracket, its best and its counts
 
-// Neither bracket nor best.
-pub fn none(out: &mut [u8], at: usize, e: Evaluations, i: Iterations) -> usize
-    ensures { λ r. ⌜ Writes (now (out .entry)) at (noneText (e .0) (i .0)) (now (out .exit)) r ⌝ }
+// Of a search that has neither bracket nor best: `BRACKET none`, `BEST none`, `COUNTS evaluations e iterations i`.
+pub fn no_bracket(out: &mut [u8], at: usize, e: Evaluations, i: Iterations) -> usize
+    ensures { λ r. ⌜ Writes (now (out .entry)) at (noBracketText (e .0) (i .0)) (now (out .exit)) r ⌝ }
 {
     let p = text::word(out, at, b"BRACKET none\nBEST none\nCOUNTS");
     counts(out, p, e, i)
 }
 
+// Of a Hager-Zhang search whose last finished iteration, or start, left f.
 fn finished(out: &mut [u8], at: usize, f: Finished, e: Evaluations) -> usize
     ensures { λ r. ⌜ Writes (now (out .entry)) at (closingText (lastOf f) (e .0)) (now (out .exit)) r ⌝ }
 {
@@ -124,12 +129,12 @@ fn finished(out: &mut [u8], at: usize, f: Finished, e: Evaluations) -> usize
     counts(out, r, e, f.iterations)
 }
 
-// What this search holds.
+// Of a Hager-Zhang search as it stands.
 pub fn closing(out: &mut [u8], at: usize, s: Search) -> usize
     ensures { λ r. ⌜ Writes (now (out .entry)) at (closingText (report s) (s .evaluations .0)) (now (out .exit)) r ⌝ }
 {
     match hagerzhang::held(s) {
-        Kept::NoneYet => none(out, at, s.evaluations, Iterations(0)),
+        Kept::NoneYet => no_bracket(out, at, s.evaluations, Iterations(0)),
         Kept::Last(f) => finished(out, at, f, s.evaluations),
     }
 }

@@ -1,5 +1,5 @@
--- 01, "Absolute value clears the sign bit", as a fact of the 64 bits (`abs-clears`); and what a float's comparison with itself says.
--- Assumes nothing.
+-- 01, "Absolute value clears the sign bit", as a fact of the 64 bits (`abs-clears`); and what a float's comparison with
+-- itself says. Assumes nothing.
 use mathlib.Core.Path.{_≡_, refl, sym, subst}
 use Prim.Native.Nat.{ℕ, zero, suc, _+_, _/_, _%_}
 use native.Mathlib.Nat.{mod-lt, mod-mod, mod-mod-of-dvd, dvd-mul-right}
@@ -15,7 +15,8 @@ unfolding odd
 odd-abs d s zero k l = refl
 odd-abs d s (suc q) k l = refl
 
-fields-abs : (a b s : Bool) (v w : Float) → absOf v ≡ w → absOf (cond a (cond b (inf s) nan) v) ≡ cond a (cond b (inf false) nan) w
+fields-abs : (a b s : Bool) (v w : Float) → absOf v ≡ w
+    → absOf (cond a (cond b (inf s) nan) v) ≡ cond a (cond b (inf false) nan) w
 fields-abs true true s v w h = refl
 fields-abs true false s v w h = refl
 fields-abs false b s v w h = h
@@ -23,7 +24,8 @@ fields-abs false b s v w h = h
 ofFields-abs : (s : Bool) (x t : ℕ) → absOf (ofFields binary64 s x t) ≡ ofFields binary64 false x t
 unfolding ofFields
 ofFields-abs s zero t = odd-abs 53 s t 0 (low binary64)
-ofFields-abs s (suc x) t = fields-abs (eqb (suc x) 2047) (eqb t 0) s _ _ (odd-abs 53 s (hid binary64 + t) x (low binary64))
+ofFields-abs s (suc x) t =
+    fields-abs (eqb (suc x) 2047) (eqb t 0) s _ _ (odd-abs 53 s (hid binary64 + t) x (low binary64))
 
 -- top binary64 is 2 ^ 63, the sign bit's weight
 pub abs-clears : (n : ℕ) → ofBits binary64 (n % top binary64) ≡ absOf (ofBits binary64 n)

@@ -1,4 +1,5 @@
 // Runs the job on standard input, and writes what its search tells to standard output, a line for each outcome.
+
 use curves::Curve;
 use hagerzhang::Turn;
 use jobs::Opened;
@@ -11,6 +12,7 @@ ghost use lib.ListN.{length};
 ghost use Rattle.play.specs.Playing.{leftAfter};
 ghost use Rattle.play.proofs.Ending.{Playable};
 
+// The first n bytes of the page, to standard output.
 fn put(page: &[u8], n: usize)
     requires { ⌜ n ≤ length (now page) ⌝ }
 {

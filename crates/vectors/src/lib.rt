@@ -61,6 +61,7 @@ fn all_finite(xs: &[f64]) -> bool
     true
 }
 
+// 01: "Dot adds products from the left, starting with the first product."
 fn left_sum(a: &[f64], b: &[f64]) -> f64
     requires { ⌜ (0 < length (now a)) × (length (now a) ≡ length (now b)) ⌝ }
     ensures { λ r. ⌜ r ≡ leftSum (products (now (a .entry)) (now (b .entry))) ⌝ }
@@ -74,7 +75,7 @@ fn left_sum(a: &[f64], b: &[f64]) -> f64
     s
 }
 
-// The sum of the products of a's elements with b's, added from the left.
+// The dot of a and b, or the first refusal that applies.
 pub fn dot(a: &[f64], b: &[f64]) -> DotResult
     ensures { λ r. ⌜ DotSaid (now (a .entry)) (now (b .entry)) r ⌝ }
 {
@@ -114,6 +115,7 @@ fn stays_finite(x0: &[f64], alpha: f64, d: &[f64]) -> bool
     true
 }
 
+// 01: "A point is x0[i] + alpha*d[i]."
 fn write_moved(x0: &[f64], alpha: f64, d: &[f64], out: &mut [f64])
     requires { ⌜ (length (now x0) ≡ length (now d)) × (length (now x0) ≡ length (now out)) ⌝ }
     ensures { λ _. ⌜ now (out .exit) ≡ moved (now (x0 .entry)) alpha (now (d .entry)) ⌝ }
@@ -125,7 +127,8 @@ fn write_moved(x0: &[f64], alpha: f64, d: &[f64], out: &mut [f64])
     }
 }
 
-// Writes x0 + alpha * d to out, once every element of it is known to be finite.
+// Writes the point x0 + alpha * d to out; or leaves out as it is, and tells the first refusal that applies. 01: "A
+// scaled point checks all elements before it writes any."
 pub fn point(x0: &[f64], alpha: f64, d: &[f64], out: &mut [f64]) -> PointResult
     ensures { λ r. ⌜ PointSaid (now (x0 .entry)) alpha (now (d .entry)) (now (out .entry)) r (now (out .exit)) ⌝ }
 {

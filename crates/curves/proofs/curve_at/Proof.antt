@@ -5,8 +5,9 @@ use Rattle.curves.proofs.curve_at.Tie as tie
 
 pub curve-at-spec : {M : Type 1} → statement M
 curve-at-spec =
-    tie.close (tie.spec (λ c κs. search needs) (λ c. search needs) (λ c κs. search needs) (λ c. search needs)
-    (λ c κs. search needs)
+    tie.close
+    (tie.spec
+    (λ c κs. search needs) (λ c. search needs) (λ c κs. search needs) (λ c. search needs) (λ c κs. search needs)
     (λ c. search needs) (λ c κs. search needs) (λ c. search needs) (λ c κs. search needs)
     (λ c. rw (
       c .entry5 .ensures,

@@ -9,7 +9,7 @@ unfolding keptReport
 returns c =
     let n = c .before .before in
     let told = n .before .before in
-    rw (← told .before .before .held .ensures .0, told .enum-told .given .1) (n .none .ensures)
+    rw (← told .before .before .held .ensures .0, told .enum-told .given .1) (n .no-bracket .ensures)
 
 returns-2 : tie.Need-returns-2
 unfolding keptReport

@@ -1,4 +1,5 @@
--- `numbers::abs` meets its contract: a value that is no NaN is read back from its bits, and a NaN stays. Assumes nothing.
+-- `numbers::abs` meets its contract: a value that is no NaN is read back from its bits, and a NaN stays. Assumes
+-- nothing.
 use mathlib.Core.Path.{sym, ap, _∙_, subst}
 use lib.Dec.{T}
 use lib.Ieee.{binary64, toBits}

@@ -7,10 +7,13 @@ use Rattle.search.proofs.main.Statement.{statement}
 use Rattle.search.proofs.main.Tie as tie
 
 tell-requires : tie.Need-tell-requires
-tell-requires c κs = begun-playable _ _ _ (sym (c .before .before .before .begin .ensures) ∙ ap openedTold (c .before .c .given .1))
+tell-requires c κs =
+    begun-playable _ _ _ (sym (c .before .before .before .begin .ensures) ∙ ap openedTold (c .before .c .given .1))
 
 pub main-spec : {M : Type 1} → statement M
 main-spec =
-    tie.close (tie.spec (λ c. search needs) (λ c κs. search needs) (λ c. search needs) (λ c. search needs) (λ c κs. search needs) (λ c. search needs)
-    tell-requires (λ c. search needs) (λ c κs. search needs) (λ c κs. search needs) (λ c. search needs) (λ c κs. search needs) (λ c. search needs)
-    (λ c. search needs) (λ c. search needs))
+    tie.close
+    (tie.spec
+    (λ c. search needs) (λ c κs. search needs) (λ c. search needs) (λ c. search needs) (λ c κs. search needs)
+    (λ c. search needs) tell-requires (λ c. search needs) (λ c κs. search needs) (λ c κs. search needs)
+    (λ c. search needs) (λ c κs. search needs) (λ c. search needs) (λ c. search needs) (λ c. search needs))

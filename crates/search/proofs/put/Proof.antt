@@ -6,4 +6,7 @@ use Rattle.search.proofs.put.Statement.{statement}
 use Rattle.search.proofs.put.Tie as tie
 
 pub put-spec : {M : Type 1} → statement M
-put-spec = tie.close (tie.spec (λ c. sym (length-take-le _ _ (c .before .before .pre))) (λ c κs. search needs) (λ c. search needs))
+put-spec =
+    tie.close
+    (tie.spec
+    (λ c. sym (length-take-le _ _ (c .before .before .pre))) (λ c κs. search needs) (λ c. search needs))

@@ -1,4 +1,5 @@
--- `search::tell` meets its contract: the rules match what is left of the play, and each turn leaves less to tell. Assumes nothing.
+-- `search::tell` meets its contract: the rules match what is left of the play, and each turn leaves less to tell.
+-- Assumes nothing.
 use native.Mathlib.Omega.{arith}
 use borrow.Author.Needs.{needs}
 use Rattle.play.proofs.Ending.{toTell, Playable, plays-on, less-to-tell}
@@ -14,7 +15,8 @@ abbrev μ-loop : tie.MeasureT-loop
 loop-less : tie.Need-loop-less Inv-loop μ-loop
 loop-less c =
     let l = c .before .before .before .before in
-    less-to-tell (l .before .args .c) 512 _ _ _ (l .loop .inv) (c .before .before .played .given .1) (c .tell-some .ensures) (omega arith)
+    less-to-tell (l .before .args .c) 512 _ _ _ (l .loop .inv) (c .before .before .played .given .1)
+    (c .tell-some .ensures) (omega arith)
 
 loop-again : tie.Need-loop-again Inv-loop μ-loop
 loop-again c =
@@ -23,5 +25,7 @@ loop-again c =
 
 pub tell-spec : {M : Type 1} → statement M
 tell-spec =
-    tie.close (tie.spec Inv-loop μ-loop (λ c. c .pre) (λ c. search needs) (λ c. search needs) (λ c. search needs) (λ c κs. search needs) loop-less
-    loop-again)
+    tie.close
+    (tie.spec
+    Inv-loop μ-loop (λ c. c .pre) (λ c. search needs) (λ c. search needs) (λ c. search needs)
+    (λ c κs. search needs) loop-less loop-again)

@@ -12,5 +12,6 @@ returns c = c .before .before .before .play .ensures .left
 
 pub tell-some-spec : {M : Type 1} → statement M
 tell-some-spec =
-    tie.close (tie.spec (λ c κs. search needs) (λ c. search needs) (λ c κs. search needs) (λ c. search needs)
-    put-requires returns)
+    tie.close
+    (tie.spec
+    (λ c κs. search needs) (λ c. search needs) (λ c κs. search needs) (λ c. search needs) put-requires returns)

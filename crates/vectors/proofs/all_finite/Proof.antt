@@ -19,18 +19,6 @@ Inv-loop xs i₀ i = (i ≤ length xs) × (allFinite xs ≡ allFinite (drop i xs
 abbrev μ-loop : tie.MeasureT-loop
 μ-loop xs i₀ i = length xs - i
 
-loop-holds : tie.Need-loop-holds Inv-loop μ-loop
-loop-holds c = (omega arith, refl)
-
-mul-is-finite : tie.Need-mul-is-finite Inv-loop μ-loop
-mul-is-finite c = omega arith
-
-shared-slice-read-is-finite : tie.Need-shared-slice-read-is-finite Inv-loop μ-loop
-shared-slice-read-is-finite c = omega arith
-
-is-finite-requires : tie.Need-is-finite-requires Inv-loop μ-loop
-is-finite-requires c κs = tt
-
 returns : tie.Need-returns Inv-loop μ-loop
 returns c =
     let l = c .before .before .before .before in
@@ -38,12 +26,6 @@ returns c =
     let f : finite (getD xs (l .loop .i) nan) ≡ false =
     sym (c .before .is-finite .ensures) ∙ not-true _ (c .if1 .taken) in
     sym (l .loop .inv .1 ∙ finite-step xs (l .loop .i) (omega arith) ∙ rw f)
-
-add-i : tie.Need-add-i Inv-loop μ-loop
-add-i c = omega arith
-
-loop-less : tie.Need-loop-less Inv-loop μ-loop
-loop-less c = omega arith
 
 loop-again : tie.Need-loop-again Inv-loop μ-loop
 loop-again c =
@@ -60,6 +42,7 @@ returns-2 c =
 
 pub all-finite-spec : {M : Type 1} → statement M
 all-finite-spec =
-    tie.close (tie.spec Inv-loop μ-loop loop-holds mul-is-finite shared-slice-read-is-finite is-finite-requires returns
-    add-i loop-less loop-again
-    returns-2)
+    tie.close
+    (tie.spec
+    Inv-loop μ-loop (λ c. (omega arith, refl)) (λ c. omega arith) (λ c. omega arith) (λ c κs. tt) returns
+    (λ c. omega arith) (λ c. omega arith) loop-again returns-2)

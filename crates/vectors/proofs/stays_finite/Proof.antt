@@ -53,6 +53,7 @@ returns-2 c =
 
 pub stays-finite-spec : {M : Type 1} → statement M
 stays-finite-spec =
-    tie.close (tie.spec Inv-loop μ-loop (λ c. (omega arith, refl)) (λ c. omega arith) (λ c. omega arith)
-    (λ c. omega arith) (λ c. omega arith)
-    (λ c κs. tt) returns (λ c. omega arith) (λ c. omega arith) loop-again returns-2)
+    tie.close
+    (tie.spec
+    Inv-loop μ-loop (λ c. (omega arith, refl)) (λ c. omega arith) (λ c. omega arith) (λ c. omega arith)
+    (λ c. omega arith) (λ c κs. tt) returns (λ c. omega arith) (λ c. omega arith) loop-again returns-2)

@@ -7,10 +7,7 @@ pub in-range-spec : {M : Type 1} → statement M
 in-range-spec =
     tie.close
     (tie.spec
-    (λ c. search needs)
-    (λ c. search needs)
-    (λ c. search needs)
-    (λ c. search needs)
+    (λ c. search needs) (λ c. search needs) (λ c. search needs) (λ c. search needs)
     (λ c. rw (c .before .self .given .1))
     (λ c. rw (c .before .self2 .given .1))
     (λ c. rw (c .before .self3 .given .1))

@@ -1,4 +1,5 @@
--- `hagerzhang_decisions::verdicts::best` meets its contract: the last of the three tests gives a, and so does none of them. Assumes nothing.
+-- `hagerzhang_decisions::verdicts::best` meets its contract: where the tests of c and of b fail, the test of a gives a,
+-- and so does the place behind it. Assumes nothing.
 use mathlib.Core.Path.{_≡_, refl}
 use mathlib.Core.Bool.{Bool, true, false, cond}
 use Rattle.hagerzhang_rules.specs.declared.Point.{Point}

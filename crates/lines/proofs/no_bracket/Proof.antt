@@ -1,11 +1,11 @@
--- `lines::none` meets its contract. Assumes nothing.
+-- `lines::no_bracket` meets its contract. Assumes nothing.
 use borrow.Author.Needs.{needs}
 use Rattle.text.proofs.Writing.{then}
-use Rattle.lines.proofs.none.Statement.{statement}
-use Rattle.lines.proofs.none.Tie as tie
+use Rattle.lines.proofs.no_bracket.Statement.{statement}
+use Rattle.lines.proofs.no_bracket.Tie as tie
 
-pub none-spec : {M : Type 1} → statement M
-none-spec =
+pub no-bracket-spec : {M : Type 1} → statement M
+no-bracket-spec =
     tie.close
     (tie.spec
     (λ c. search needs) (λ c κs. search needs) (λ c κs. search needs) (λ c. search needs)
