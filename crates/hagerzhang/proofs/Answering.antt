@@ -17,7 +17,7 @@ use Rattle.hagerzhang_rules.specs.declared.Setup.{Setup}
 use Rattle.hagerzhang_rules.specs.Rules.{answerFinite, middleOf}
 use Rattle.hagerzhang.specs.declared.state.Finished.{Finished}
 use Rattle.hagerzhang.specs.declared.moves.Move.{Move}
-use Rattle.hagerzhang.specs.declared.moves.Move.the-variants.{Try, Narrow, Stop as ByVerdict, Limit as ByLimit}
+use Rattle.hagerzhang.specs.declared.moves.Move.the-variants.{Try, Narrow, ByVerdict, ByLimit}
 use Rattle.hagerzhang.specs.declared.moves.Tested.{Tested}
 use Rattle.hagerzhang.specs.declared.iteration.Then.{Then}
 use Rattle.hagerzhang.specs.declared.iteration.Then.the-variants.{Go, Close}

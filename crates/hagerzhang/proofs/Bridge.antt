@@ -39,7 +39,7 @@ use Rattle.hagerzhang.specs.declared.state.Waiting.the-variants.{Low, Hi
 use Rattle.hagerzhang.specs.declared.state.Stage.{Stage}
 use Rattle.hagerzhang.specs.declared.state.Stage.the-variants.{Open, Over}
 use Rattle.hagerzhang.specs.declared.moves.Move.{Move}
-use Rattle.hagerzhang.specs.declared.moves.Move.the-variants.{Limit as ByLimit}
+use Rattle.hagerzhang.specs.declared.moves.Move.the-variants.{ByLimit}
 use Rattle.hagerzhang.specs.declared.moves.Tested.{Tested}
 use Rattle.hagerzhang.specs.declared.iteration.Then.{Then}
 use Rattle.hagerzhang.specs.declared.iteration.Then.the-variants.{Close}

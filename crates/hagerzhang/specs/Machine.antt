@@ -1,7 +1,7 @@
 -- The machine's own bookkeeping, which the contracts cite. The demands name what the functions give by it (`startOf`,
--- `answerOf`, `heldOf`, `awaitedOf`), and nobody needs to read how: specs/Meaning.antt says what a state stands for in 01's
--- rules, proofs/Bridge.antt that every step is the rules' step, and demands/proofs/Along.antt the same for any list of
--- answers.
+-- `answerOf`, `heldOf`, `awaitedOf`), and nobody needs to read how. specs/Meaning.antt says what a state stands for in
+-- 01's rules, proofs/Bridge.antt that every step is the rules' step, and demands/proofs/Along.antt the same for any
+-- list of answers.
 use Prim.Native.Nat.{_-_}
 use mathlib.Core.Path.{_≡_}
 use mathlib.Core.Bool.{cond}
@@ -40,7 +40,8 @@ use Rattle.hagerzhang.specs.Iteration.{runningOf}
 
 unfoldable pub reactOf : Setup → Waiting → Float → Float → Next
 reactOf s Low f g = asksOf (High (point (s .options .params .min) f g)) (s .options .params .max)
-reactOf s (High a) f g = asksOf (StartStep (bracket a (point (s .options .params .max) f g))) (s .options .params .start)
+reactOf s (High a) f g =
+    asksOf (StartStep (bracket a (point (s .options .params .max) f g))) (s .options .params .start)
 reactOf s (StartStep w) f g = settledOf s w (point (s .options .params .start) f g) (iterations 0)
 reactOf s (Running last t asked) f g = runningOf s last t asked f g
 

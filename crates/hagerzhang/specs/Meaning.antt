@@ -32,7 +32,22 @@ use Rattle.hagerzhang.specs.declared.state.Turn.{Turn}
 use Rattle.hagerzhang.specs.declared.state.Started.{Started}
 use Rattle.hagerzhang.specs.declared.state.Started.the-variants.{Began, NoSearch}
 use Rattle.hagerzhang_rules.specs.Parameters.{setupOf, startRows}
-use Rattle.hagerzhang_rules.specs.Rules.{point, answerFinite, narrowedOf, Report, noneYet, last, U3, update, afterS1, afterS4, rounds, askStart, askHigh, hagerZhang}
+use Rattle.hagerzhang_rules.specs.Rules.{
+  point,
+  answerFinite,
+  narrowedOf,
+  Report,
+  noneYet,
+  last,
+  U3,
+  update,
+  afterS1,
+  afterS4,
+  rounds,
+  askStart,
+  askHigh,
+  hagerZhang,
+}
 use Rattle.hagerzhang.specs.Machine.{keepsOf, heldOf, stepDue}
 
 -- ---- what a state reports

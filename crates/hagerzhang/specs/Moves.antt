@@ -23,9 +23,9 @@ use Rattle.hagerzhang.specs.declared.state.Trial.{Trial}
 use Rattle.hagerzhang.specs.declared.state.Asked.the-variants.{Update, Between}
 use Rattle.hagerzhang.specs.declared.state.Waiting.the-variants.{Running}
 use Rattle.hagerzhang.specs.declared.moves.Move.{Move}
-use Rattle.hagerzhang.specs.declared.moves.Move.the-variants.{Try, Narrow, Stop as ByVerdict, Limit as ByLimit}
+use Rattle.hagerzhang.specs.declared.moves.Move.the-variants.{Try, Narrow, ByVerdict, ByLimit}
 use Rattle.hagerzhang.specs.declared.moves.Tested.{Tested}
-use Rattle.hagerzhang.specs.declared.moves.Tested.the-variants.{Try as Asks, Narrow as Narrows, End as Stops}
+use Rattle.hagerzhang.specs.declared.moves.Tested.the-variants.{Asks, Narrows, Stops}
 use Rattle.hagerzhang.specs.declared.state.Next.{Next}
 use Rattle.hagerzhang_rules.specs.Rules.{bracket, middleOf, secantOf, bestOf, judgeOf}
 use Rattle.hagerzhang.specs.State.{narrowing, asksOf, endedOf}

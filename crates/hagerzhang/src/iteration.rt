@@ -14,7 +14,15 @@ use hagerzhang_rules::Further;
 use hagerzhang_rules::Point;
 use hagerzhang_rules::Setup;
 ghost use mathlib.Core.Path.{_≡_};
-ghost use Rattle.hagerzhang.specs.Iteration.{comesOf, leftOf, afterS4Of, afterS1Of, followOf, onwardOf, runningOf};
+ghost use Rattle.hagerzhang.specs.Iteration.{
+  comesOf,
+  leftOf,
+  afterS4Of,
+  afterS1Of,
+  followOf,
+  onwardOf,
+  runningOf,
+};
 
 // What follows in the iteration: a move, or its end with a bracket.
 enum Then {

@@ -21,7 +21,18 @@ ghost use lib.Ieee.{isNan};
 ghost use Rattle.runs.specs.Asking.{reported, awaits};
 ghost use Rattle.runs.specs.Counters.{iterations};
 ghost use Rattle.hagerzhang_rules.specs.Rules.{iterationsIn};
-ghost use Rattle.hagerzhang.specs.Machine.{freshOf, StartSaid, AnswerSaid, reactOf, keepsOf, heldOf, stepAsked, stepDue, awaitedOf, takenOf};
+ghost use Rattle.hagerzhang.specs.Machine.{
+  freshOf,
+  StartSaid,
+  AnswerSaid,
+  reactOf,
+  keepsOf,
+  heldOf,
+  stepAsked,
+  stepDue,
+  awaitedOf,
+  takenOf,
+};
 ghost use Rattle.hagerzhang.specs.Meaning.{keptReport, dueTold, meant, Starts, Follows};
 
 mod iteration; // the way of an answer in an iteration, up to a move or its end

@@ -21,15 +21,24 @@ use runs::Iterations;
 use runs::Outcome;
 use runs::Verdict;
 ghost use mathlib.Core.Path.{_≡_};
-ghost use Rattle.hagerzhang.specs.Moves.{triesOf, settledOf, outlookOf, madeOf, testOf, attemptOf, probeOf, refusedOf};
+ghost use Rattle.hagerzhang.specs.Moves.{
+  triesOf,
+  settledOf,
+  outlookOf,
+  madeOf,
+  testOf,
+  attemptOf,
+  probeOf,
+  refusedOf,
+};
 
 // What is due next: a trial's step, a step of U3 between h and k while so many answers may come, or the end by a
 // verdict or the limit.
 pub(crate) enum Move {
     Try(Bracket, Trial),
     Narrow(Trial, Point, f64, u32),
-    Stop(Verdict),
-    Limit,
+    ByVerdict(Verdict),
+    ByLimit,
 }
 
 // (3) The start or an iteration is finished: L3, best, and what is due then.
@@ -52,10 +61,10 @@ fn outlook(s: Setup, last: Finished) -> Move
 {
     let w = last.bracket;
     match verdicts::judge(s, last.best) {
-        Judged::Holds(v) => Move::Stop(v),
+        Judged::Holds(v) => Move::ByVerdict(v),
         Judged::Fails => {
             if s.options.limit <= last.iterations.0 {
-                return Move::Limit;
+                return Move::ByLimit;
             }
             tries(w, Rule::S1, bracketing::secant(w.a, w.b))
         }
@@ -70,9 +79,9 @@ pub(crate) fn tries(u: Bracket, rule: Rule, x: f64) -> Move
 
 // A move that was tested: it is asked, or the search is over.
 enum Tested {
-    Try(Bracket, Trial),
-    Narrow(Trial, Narrowing),
-    End(Outcome),
+    Asks(Bracket, Trial),
+    Narrows(Trial, Narrowing),
+    Stops(Outcome),
 }
 
 // (4) What is due is tested: 5; 6, 5, 7.
@@ -82,8 +91,8 @@ fn test(theta: f64, best: f64, m: Move) -> Tested
     match m {
         Move::Try(u, t) => attempt(u, t),
         Move::Narrow(t, h, k, left) => probe(theta, t, h, k, left),
-        Move::Stop(v) => Tested::End(Outcome::Stop(v, best)),
-        Move::Limit => Tested::End(Outcome::Limit(best)),
+        Move::ByVerdict(v) => Tested::Stops(Outcome::Stop(v, best)),
+        Move::ByLimit => Tested::Stops(Outcome::Limit(best)),
     }
 }
 
@@ -92,7 +101,7 @@ fn attempt(u: Bracket, t: Trial) -> Tested
     ensures { λ r. ⌜ r ≡ attemptOf u t ⌝ }
 {
     if numbers::is_finite(t.x) {
-        return Tested::Try(u, t);
+        return Tested::Asks(u, t);
     }
     refused(Refusal::StepNotFinite)
 }
@@ -110,7 +119,7 @@ fn probe(theta: f64, t: Trial, h: Point, k: f64, left: u32) -> Tested
     }
     if (h.x < d) & (d < k) {
         let left = left - 1;
-        return Tested::Narrow(t, Narrowing { h, k, d, left });
+        return Tested::Narrows(t, Narrowing { h, k, d, left });
     }
     refused(Refusal::StepNotBetween)
 }
@@ -118,7 +127,7 @@ fn probe(theta: f64, t: Trial, h: Point, k: f64, left: u32) -> Tested
 fn refused(r: Refusal) -> Tested
     ensures { λ t. ⌜ t ≡ refusedOf r ⌝ }
 {
-    Tested::End(Outcome::Refused(r))
+    Tested::Stops(Outcome::Refused(r))
 }
 
 // (5) The next state, and what is said. An end keeps what the last finished iteration left.
@@ -126,8 +135,8 @@ pub(crate) fn made(theta: f64, last: Finished, m: Move) -> Next
     ensures { λ r. ⌜ r ≡ madeOf theta last m ⌝ }
 {
     match test(theta, last.best.x, m) {
-        Tested::Try(u, t) => asks(Waiting::Running(last, t, Asked::Update(u)), t.x),
-        Tested::Narrow(t, e) => asks(Waiting::Running(last, t, Asked::Between(e)), e.d),
-        Tested::End(outcome) => ended(Kept::Last(last), outcome),
+        Tested::Asks(u, t) => asks(Waiting::Running(last, t, Asked::Update(u)), t.x),
+        Tested::Narrows(t, e) => asks(Waiting::Running(last, t, Asked::Between(e)), e.d),
+        Tested::Stops(outcome) => ended(Kept::Last(last), outcome),
     }
 }

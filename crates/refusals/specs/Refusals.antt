@@ -8,7 +8,15 @@ use mathlib.Core.Option.{Option, none, some}
 use lib.Dec.{eqb}
 use Rattle.refusals.specs.Results.{Result, value, refused, Row}
 use Rattle.refusals.specs.declared.Refusal.{Refusal}
-use Rattle.refusals.specs.declared.Refusal.the-variants.{SuppliedNotFinite, OutOfRange, ResultNotFinite, StepNotFinite, BudgetSpent, StepNotBetween, AlreadyOver}
+use Rattle.refusals.specs.declared.Refusal.the-variants.{
+  SuppliedNotFinite,
+  OutOfRange,
+  ResultNotFinite,
+  StepNotFinite,
+  BudgetSpent,
+  StepNotBetween,
+  AlreadyOver,
+}
 
 -- the number of each refusal that a search can give
 abbrev pub numberOf : Refusal → ℕ

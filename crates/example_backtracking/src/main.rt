@@ -1,0 +1,89 @@
+// An example: backtracking with each of the four conditions, over a model of one's own. The constants of a condition are
+// checked first; two of them are bad, and are refused by number.
+use backtracking::Started;
+use backtracking::Turn;
+use conditions::Checked;
+use conditions::Condition;
+use libc::STDOUT_FILENO;
+use runs::Outcome;
+
+// ---- the model: a fan's power over its speed, 1 - 2x + 4x^2 from the present speed on
+
+fn power(x: f64) -> f64 {
+    1.0 - 2.0 * x + 4.0 * (x * x)
+}
+
+fn slope(x: f64) -> f64 {
+    8.0 * x - 2.0
+}
+
+// ---- the search
+
+fn print(text: &[u8], n: usize) {
+    if n <= text.len() {
+        io::write_all(STDOUT_FILENO, &text[..n]);
+    }
+}
+
+fn print_refused(number: u32) {
+    let mut line = [0u8; 80];
+    let n = lines::refused(&mut line, 0, number);
+    print(&line, n);
+}
+
+// The line of what the search says, with its evaluations and iterations.
+fn print_turn(t: Turn) {
+    let s = t.search;
+    let outcome = t.outcome;
+    let mut line = [0u8; 80];
+    let n = lines::outcome(&mut line, 0, outcome, s.evaluations, s.iterations);
+    print(&line, n);
+}
+
+// The model answers each step that is asked, until the search ends. It ends by itself; a loop has to say so too, and
+// counts its turns down.
+fn answer_all(first: Turn) {
+    let mut t = first;
+    let mut turns: u32 = 4294967295;
+    while 0 < turns {
+        turns -= 1;
+        print_turn(t);
+        let s = t.search;
+        let outcome = t.outcome;
+        let Outcome::Ask(x) = outcome else {
+            return;
+        };
+        t = backtracking::answer(s, power(x), slope(x));
+    }
+}
+
+fn backtrack(condition: Condition) {
+    match backtracking::start(backtracking::defaults(condition), power(0.0), slope(0.0)) {
+        Started::Began(first) => answer_all(first),
+        Started::NoSearch(refusal) => print_refused(refusal.number()),
+    }
+}
+
+// A condition whose constants are in their ranges is searched with; another one is refused.
+fn try_condition(condition: Condition) {
+    match condition.checked() {
+        Checked::Fit(fit) => backtrack(fit),
+        Checked::Unfit(refusal) => print_refused(refusal.number()),
+    }
+}
+
+fn main() {
+    try_condition(Condition::Armijo { c: 0.0001 });
+    try_condition(Condition::Goldstein { c: 0.25 });
+    try_condition(Condition::Wolfe {
+        c1: 0.0001,
+        c2: 0.9,
+    });
+    try_condition(Condition::StrongWolfe {
+        c1: 0.0001,
+        c2: 0.1,
+    });
+    // out of range (3), and not a number (2)
+    try_condition(Condition::Wolfe { c1: 0.9, c2: 0.1 });
+    try_condition(Condition::Armijo { c: 0.0 / 0.0 });
+}
