@@ -58,7 +58,8 @@ module _ (s : Setup) where
       cond (holdsOf (s .options .condition) (s .f0) (s .s0) t f g) (endWith now (stop met t)) further
 
   -- n trials may follow this one; "its limit has the last step tested". Refusal 5: "the next trial step comes out not
-  -- finite; nothing is asked". With rho below 1 a finite step never comes to that; 01's table names it for any search.
+  -- finite; nothing is asked". 01's table names it for any search; one that `start` gave never comes to it
+  -- (`never-five`, demands/specs/Backtracking.antt).
   unfoldable pub trials : ℕ → ℕ → ℕ → Float → Rest ℕ
   trials zero before now t = tested before now t (endWith now (limit t))
   trials (suc n) before now t =
