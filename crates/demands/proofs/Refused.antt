@@ -118,9 +118,9 @@ module _ (o : Options) (f0 s0 : Float) (ok : Passed (startRows o f0 s0)) where
   tells-in-U3 ys p h k (ask k' x then) is e in-U3 step =
       tells-asked s p (asked ys) h k in-U3 (rules.asks o f0 s0 ok ys p x (ap reported is ∙ e) (ap shown is))
   tells-in-U3 ys p h k (end o') is e in-U3 step =
-      tells-ended s p (asked ys) h k (o' .by)
-      (subst (λ (l : Report). EndedBecause s l (asked ys) (o' .by)) e (rules.ends o f0 s0 ok ys (o' .keeps) (o' .by) is))
-      in-U3 step
+      let why = rules.ends o f0 s0 ok ys (o' .keeps) (o' .by) is in
+      tells-ended s p (asked ys) h k (o' .by) (subst (λ (l : Report). EndedBecause s l (asked ys) (o' .by)) e why) in-U3
+      step
 
   told-so : (ys : List Reply) (y : Reply) → toldAt (freshOf s .search) ys y ≡ shown (here (and-then ys y))
   told-so ys y = told-at o f0 s0 ok ys y ∙ ap shown (sym (after-one-more (hagerZhang s) ys y))
@@ -137,7 +137,8 @@ module _ (o : Options) (f0 s0 : Float) (ok : Passed (startRows o f0 s0)) where
         let c = reachedBy (freshOf s .search) ys in
         let step = answered c (y .0) (y .1) (answerOf c (y .0) (y .1)) refl .otherwise (rw (runs, fine)) in
         rw (asked-by o f0 s0 ok zs) (told-so ys y
-        ∙ tells-in-U3 zs p h k (here zs) refl (sym (report-at o f0 s0 ok zs) ∙ e) (rw (asked-by o f0 s0 ok zs) at stands)
+        ∙ tells-in-U3 zs p h k (here zs) refl (sym (report-at o f0 s0 ok zs) ∙ e)
+        (rw (asked-by o f0 s0 ok zs) at stands)
         (subst (λ (q : Told). OfTheStep (refusalIn q)) (told-so ys y) step));
     asks-finite = λ ys y x e. rules.asks-finite o f0 s0 ok (and-then ys y) x (sym (told-so ys y) ∙ e);
     asks-rightly = λ ys y x e p h.
