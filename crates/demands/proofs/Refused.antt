@@ -119,10 +119,9 @@ module _ (o : Options) (f0 s0 : Float) (ok : Passed (startRows o f0 s0)) where
   tells-in-U3 ys p h k (ask k' x then) is e in-U3 step =
       tells-asked s p (asked ys) h k in-U3 (rules.asks o f0 s0 ok ys p x (ap reported is ∙ e) (ap shown is))
   tells-in-U3 ys p h k (end o') is e in-U3 step =
-      tells-ended s p (asked ys) h k (o' .by)
-      (subst (λ (l : Report). EndedBecause s l (asked ys) (o' .by)) e
-      (rules.ends o f0 s0 ok ys (o' .keeps) (o' .by) is))
-      in-U3 step
+      let why = rules.ends o f0 s0 ok ys (o' .keeps) (o' .by) is in
+      tells-ended s p (asked ys) h k (o' .by) (subst (λ (l : Report). EndedBecause s l (asked ys) (o' .by)) e why) in-U3
+      step
 
   told-so : (ys : List Reply) (y : Reply) → toldAt (freshOf s .search) ys y ≡ shown (here (and-then ys y))
   told-so ys y = told-at o f0 s0 ok ys y ∙ ap shown (sym (after-one-more (hagerZhang s) ys y))

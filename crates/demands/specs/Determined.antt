@@ -1,8 +1,8 @@
 -- 01, "How tight the contracts are": "Each contract determines result, next state and buffers for each input, refused
 -- ones as well; any two results it allows are proved identical". The relations are those that the contracts cite. Every
 -- other public function's contract is an equation of the result itself, `r ≡ ..`, and that is the field `equation`. One
--- exception in form: `wire::from` and `fields::body` hand out a part of the slice that they are lent. Their contracts say
--- all that can be read there.
+-- exception in form: `wire::from` and `fields::body` hand out a part of the slice that they are lent. Their contracts
+-- say all that can be read there.
 use Prim.Native.Nat.{ℕ}
 use mathlib.Core.Path.{_≡_}
 use mathlib.Core.List.{List}

@@ -1,4 +1,4 @@
-// An example: backtracking with each of the four conditions, over a model of one's own. The constants of a condition are
+// An example: backtracking with each of the four conditions, over a model of its own. The constants of a condition are
 // checked first; two of them are bad, and are refused by number.
 use backtracking::Started;
 use backtracking::Turn;

@@ -27,7 +27,8 @@ use Rattle.hagerzhang_rules.specs.declared.Further.the-variants.{Nothing
 use Rattle.hagerzhang_rules.specs.declared.Judged.{Judged}
 use Rattle.hagerzhang_rules.specs.declared.Judged.the-variants.{Holds, Fails}
 use Rattle.hagerzhang_rules.specs.Parameters.{setupOf, startRows}
-use Rattle.hagerzhang_rules.specs.Rules.{point, bracket, answerFinite, updateOf, middleOf, narrowedOf, secantOf}
+use Rattle.hagerzhang_rules.specs.Rules.{point, bracket, answerFinite, updateOf, middleOf, isBetween, narrowedOf}
+use Rattle.hagerzhang_rules.specs.Rules.{secantOf}
 use Rattle.hagerzhang_rules.specs.Rules.{S4, L2, bestOf, judgeOf, asking, trial, between, U3, updating, update}
 use Rattle.hagerzhang_rules.specs.Rules.{further, afterS4, afterS1, iteration, Summary, Report, noneYet, last}
 use Rattle.hagerzhang_rules.specs.Rules.{reportOf, decided, verdict, rounds, askStart, askHigh, hagerZhang}
@@ -147,7 +148,7 @@ module _ (s : Setup) (fL : finite (s .level) ≡ true) (p : Summary) (fine : Fin
       let x = middleOf (s .options .params .theta) h k' in
       let here : InU3 s w asked h k' x = record { stands = stands; answered = omega arith; steps-to = refl } in
       by-cases (Here asked) (finite x)
-      (λ fx. by-cases (Here asked) (h .x <ᶠ x && x <ᶠ k')
+      (λ fx. by-cases (Here asked) (isBetween h k' x)
       (λ strictly. asks asked x (λ d. U3 s (keeping k) k m (narrowedOf L h k' d) then)
       (λ d. U3 s inl k m (narrowedOf L h k' d) then') (omega arith) (inside here fx strictly) (rw (fx, strictly) at at)
       (λ f g e at'.

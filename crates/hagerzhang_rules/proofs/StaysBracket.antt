@@ -4,7 +4,7 @@
 -- (`updated-sound`) and once for U3 by its answer (`narrowed-sound`). The Rust's "unreachable point" has no case here:
 -- at finite numbers one of the guards holds. From the order of finite floats. Assumes nothing.
 use mathlib.Core.Path.{_≡_, refl, sym, _∙_}
-use mathlib.Core.Bool.{Bool, true, false, _&&_, _||_, false≢true}
+use mathlib.Core.Bool.{Bool, true, false, _&&_, false≢true}
 use mathlib.Core.List.{List, [], _∷_}
 use mathlib.Core.Option.{Option, some}
 use lib.Ieee.{Float, isNan}
@@ -16,7 +16,7 @@ use Rattle.hagerzhang_rules.specs.declared.Point.{Point}
 use Rattle.hagerzhang_rules.specs.declared.Bracket.{Bracket}
 use Rattle.hagerzhang_rules.specs.declared.Came.{Came}
 use Rattle.hagerzhang_rules.specs.declared.Came.the-variants.{To, On}
-use Rattle.hagerzhang_rules.specs.Rules.{updateOf, narrowedOf}
+use Rattle.hagerzhang_rules.specs.Rules.{outside, updateOf, narrowedOf}
 use Rattle.hagerzhang_rules.specs.Brackets.{premise, Ordered, Within}
 use Rattle.hagerzhang_rules.specs.Iterations.{here, there, Came-from, former-low, former-high, asked-now}
 use Rattle.hagerzhang_rules.specs.Iterations.{pointFinite}
@@ -114,15 +114,12 @@ sound-self L w fa fb o = record {
 -- ---- U0 to U3: u is reached on w, and c was asked just now
 module _ (L : Float) (w : Bracket) (asked : List Point) (u : Bracket) (c : Point) (m : Sound L w asked u)
     (fL : finite L ≡ true) (fc : pointFinite c ≡ true) where
-  abbrev outside : Bool
-  outside = c .x ≤ᶠ u .a .x || c .x ≥ᶠ u .b .x
-
-  above-low : outside ≡ false → u .a .x <ᶠ c .x ≡ true
+  above-low : outside u c ≡ false → u .a .x <ᶠ c .x ≡ true
   above-low e =
       nle→lt (c .x) (u .a .x) (x-real c fc) (x-real (u .a) (m .low .numbers))
       (neither-first (c .x ≤ᶠ u .a .x) (c .x ≥ᶠ u .b .x) e)
 
-  below-high : outside ≡ false → c .x <ᶠ u .b .x ≡ true
+  below-high : outside u c ≡ false → c .x <ᶠ u .b .x ≡ true
   below-high e =
       nle→lt (u .b .x) (c .x) (x-real (u .b) (m .high .numbers)) (x-real c fc)
       (neither-second (c .x ≤ᶠ u .a .x) (c .x ≥ᶠ u .b .x) e)
@@ -131,7 +128,7 @@ module _ (L : Float) (w : Bracket) (asked : List Point) (u : Bracket) (c : Point
   unfolding updateOf
   updated-sound =
       let Q : Option Came → Type 0 = SoundUpdate L w (c ∷ asked) in
-      by-cases Q outside (λ e. reaches (is-to (record {
+      by-cases Q (outside u c) (λ e. reaches (is-to (record {
         low = more c (m .low);
         high = more c (m .high);
         in-order = m .in-order;

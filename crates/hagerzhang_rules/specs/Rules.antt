@@ -39,12 +39,15 @@ answerFinite f g = finite f && finite g
 
 -- ---- "Update of (a, b) with c"
 
--- U0: "c.x <= a.x or c.x >= b.x: unchanged". U1: "c.g >= 0 (minus zero too): (a, c)". U2: "c.g < 0, c.f <= L: (c, b)".
--- U3: "c.g < 0, c.f > L: ends h = a, k = c.x", and goes on. Where no guard holds the Rust ends with its error
--- "unreachable point": `none`.
+-- U0: "c.x <= a.x or c.x >= b.x: unchanged"
+abbrev pub outside : Bracket → Point → Bool
+outside w c = c .x ≤ᶠ w .a .x || c .x ≥ᶠ w .b .x
+
+-- U0, then U1: "c.g >= 0 (minus zero too): (a, c)". U2: "c.g < 0, c.f <= L: (c, b)". U3: "c.g < 0, c.f > L: ends h = a,
+-- k = c.x", and goes on. Where no guard holds the Rust ends with its error "unreachable point": `none`.
 unfoldable pub updateOf : Float → Bracket → Point → Option Came
 updateOf L w c =
-    cond (c .x ≤ᶠ w .a .x || c .x ≥ᶠ w .b .x) (some (To w))
+    cond (outside w c) (some (To w))
     (cond (c .g ≥ᶠ 0ᶠ) (some (To (bracket (w .a) c)))
     (cond (c .g <ᶠ 0ᶠ && c .f ≤ᶠ L) (some (To (bracket c (w .b))))
     (cond (c .g <ᶠ 0ᶠ && c .f >ᶠ L) (some (On (w .a) (c .x)))
@@ -53,6 +56,10 @@ updateOf L w c =
 -- "Ask d.x = (1-theta)*h.x + theta*k."
 abbrev pub middleOf : Float → Point → Float → Float
 middleOf theta h k = (1ᶠ ⊖ theta) ⊗ h .x ⊕ theta ⊗ k
+
+-- 7: "strictly between its two ends"
+abbrev pub isBetween : Point → Float → Float → Bool
+isBetween h k x = h .x <ᶠ x && x <ᶠ k
 
 -- "If d.g >= 0: (h, d). Else if d.f <= L: h = d. Else k = d.x. Repeat."
 unfoldable pub narrowedOf : Float → Point → Float → Point → Came
@@ -139,7 +146,7 @@ module _ {K R : Type 0} (s : Setup) (refuse : Why → R) (kept : K) where
   unfoldable pub between : Point → Float → Float → (Point → Run K R) → Run K R
   between h k x then =
       cond (finite x)
-      (cond (h .x <ᶠ x && x <ᶠ k) (asking x then) (end (refuse (stepNotBetween (h .x) k x))))
+      (cond (isBetween h k x) (asking x then) (end (refuse (stepNotBetween (h .x) k x))))
       (end (refuse (stepNotFinite x)))
 
   -- U3 while n answers may come; where U0 to U2, or the last answer, came `To` a bracket, there is nothing to ask. 6:
