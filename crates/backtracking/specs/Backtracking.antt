@@ -52,21 +52,23 @@ module _ (s : Setup) where
   -- A trial at t. Before its answer is accepted `before` iterations are counted, and a refusal keeps that count; with
   -- it there are `now`, one more, but at the first trial. The stop has "the verdict "met" and the step"; "the verdict
   -- is tested first, then the limit".
-  abbrev tested : ℕ → ℕ → Float → Rest ℕ → Rest ℕ
-  tested before now t further =
+  abbrev pub tested : ℕ → ℕ → Float → Rest ℕ → Rest ℕ
+  tested before now t otherwise =
       question (answerFinite (s .options .condition)) (keeping before) before t λ f g.
-      cond (holdsOf (s .options .condition) (s .f0) (s .s0) t f g) (endWith now (stop met t)) further
+      cond (holdsOf (s .options .condition) (s .f0) (s .s0) t f g) (endWith now (stop met t)) otherwise
 
-  -- n trials may follow this one; "its limit has the last step tested". Refusal 5: "the next trial step comes out not
-  -- finite; nothing is asked". 01's table names it for any search; one that `start` gave never comes to it
-  -- (`never-five`, demands/specs/Backtracking.antt).
-  unfoldable pub trials : ℕ → ℕ → ℕ → Float → Rest ℕ
-  trials zero before now t = tested before now t (endWith now (limit t))
-  trials (suc n) before now t =
-      tested before now t
-      (cond (finite (t ⊗ s .options .rho))
-      (trials n now (now + 1) (t ⊗ s .options .rho))
-      (endWith now (refusal (stepNotFinite (t ⊗ s .options .rho)))))
+  -- What follows where t does not meet the condition and n trials may follow; "its limit has the last step tested".
+  -- Refusal 5: "the next trial step comes out not finite; nothing is asked". 01's table names it for any search; one
+  -- that `start` gave never comes to it (`never-five`, demands/specs/Backtracking.antt).
+  unfoldable pub further : ℕ → ℕ → Float → Rest ℕ
+  further zero now t = endWith now (limit t)
+  further (suc n) now t =
+      let shorter = t ⊗ s .options .rho in
+      cond (finite shorter) (tested now (now + 1) shorter (further n (now + 1) shorter))
+      (endWith now (refusal (stepNotFinite shorter)))
+
+  abbrev pub trials : ℕ → ℕ → ℕ → Float → Rest ℕ
+  trials n before now t = tested before now t (further n now t)
 
 abbrev pub backtracking : Setup → Rest ℕ
 backtracking s = trials s (s .options .limit) 0 0 (s .options .alpha)

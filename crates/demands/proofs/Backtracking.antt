@@ -13,7 +13,7 @@ use Rattle.refusals.specs.Results.{value}
 use Rattle.refusals.specs.Refusals.{inOrder, refusedBy}
 use Rattle.refusals.proofs.Refusals.{Passed, passed, never-refused, by-rows}
 use Rattle.runs.specs.Outcomes.{refusalIn}
-use Rattle.runs.specs.Asking.{Reply, shown, reported, isOver as over, after, toldNext, reached}
+use Rattle.runs.specs.Asking.{Reply, shown, reported, isOver as over, onceTold, after, toldNext, reached}
 use Rattle.runs.specs.Counters.{oneMore}
 use Rattle.runs.specs.declared.Evaluations.{Evaluations}
 use Rattle.runs.specs.declared.Iterations.{Iterations}
@@ -32,9 +32,9 @@ use Rattle.backtracking.specs.declared.Turn.{Turn}
 use Rattle.backtracking.specs.Backtracking.{startRows, setupOf, backtracking}
 use Rattle.backtracking.specs.Machine.{triedOf, answerBy, answerOf, freshOf, startOf}
 use Rattle.backtracking.specs.Meaning.{meaning, meant, isOver, Follows}
-use Rattle.backtracking.proofs.Bridge.{follows, starts-whole, first-asked, question-at}
+use Rattle.backtracking.proofs.Bridge.{follows, starts-whole, first-asked}
 use Rattle.demands.specs.Backtracking.{machine, Searches, BacktrackingDemands}
-use Rattle.demands.proofs.Trials.{supplied, ranges, limit-fits, alpha-finite, trials-rest, trials-end}
+use Rattle.demands.proofs.Trials.{supplied, ranges, limit-fits, alpha-finite, trials-end}
 use Rattle.demands.proofs.Trials.{NotFive, other-number, not-five, five-untold}
 use Rattle.demands.proofs.Tried.{by-tests, answered}
 use Rattle.demands.proofs.EmptyPrograms.{first-shut-out, empty-shut-out, second-ask}
@@ -42,15 +42,19 @@ use Rattle.demands.proofs.EmptyPrograms.{first-shut-out, empty-shut-out
 -- ---- any state: the rules report what it counts, and are over where it is
 reports : (s : Setup) (i : ℕ) (stage : Stage) → reported (meaning s i stage) ≡ i
 unfolding meaning reported
-reports s i First = ap reported (question-at s (s .options .limit - i) i i (s .options .alpha) .1)
-reports s i (Later t) = ap reported (question-at s (s .options .limit - oneMore i) i (oneMore i) t .1)
+reports s i First = refl
+reports s i (Later t) = refl
 reports s i Over = refl
 
 over-is : (s : Setup) (i : ℕ) (stage : Stage) → isOver stage ≡ over (meaning s i stage)
 unfolding meaning over
-over-is s i First = sym (ap over (question-at s (s .options .limit - i) i i (s .options .alpha) .1))
-over-is s i (Later t) = sym (ap over (question-at s (s .options .limit - oneMore i) i (oneMore i) t .1))
+over-is s i First = refl
+over-is s i (Later t) = refl
 over-is s i Over = refl
+
+whole : (s : Setup) → meant (freshOf s .search) ≡ onceTold (backtracking s)
+unfolding onceTold
+whole s = starts-whole s
 
 -- ---- what every state of such a search counts: "each later trial is one iteration", so one fewer than the answers
 -- accepted, and none before the first
@@ -130,7 +134,7 @@ module _ (o : Options) (f0 s0 : Float) (ok : Passed (startRows o f0 s0)) where
     first-fits = record { same = refl; counts = (refl, refl) };
     none-counted = refl;
     rules = backtracking s;
-    whole = starts-whole s ∙ sym (trials-rest s (o .limit) 0 0 (o .alpha));
+    whole = whole s;
     most = 1 + o .limit;
     within = subst (λ (n : ℕ). EndsWithin (answerFinite (o .condition)) n (backtracking s)) (omega arith)
         (trials-end s (o .limit) 0 0 (o .alpha));

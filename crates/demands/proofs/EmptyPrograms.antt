@@ -2,7 +2,7 @@
 -- that hands the state back untouched break demand 2. None of them meets the clause `rules` of backtracking's `answer`
 -- (`first-shut-out`, `empty-shut-out`); and what the rules do instead (`second-ask`). Hager-Zhang's stand in
 -- Demand2.antt. Assumes nothing.
-use mathlib.Core.Path.{_≡_, sym, ap, _∙_}
+use mathlib.Core.Path.{_≡_, refl, sym, ap, _∙_}
 use mathlib.Core.Bool.{true, false, false≢true}
 use mathlib.Core.Option.{some, Option·none-ne-some, Option·some-injective}
 use Prim.Native.Nat.{ℕ}
@@ -12,6 +12,7 @@ use Rattle.floats.specs.Arithmetic.{_⊗_, _<ᶠ_, 1ᶠ}
 use Rattle.refusals.proofs.Refusals.{Passed, passed}
 use Rattle.runs.specs.Outcomes.{asks, told, refusalIn}
 use Rattle.runs.specs.Asking.{Rest, respond, shown, awaits, isOver, onceTold}
+use Rattle.runs.specs.Counters.{oneMore}
 use Rattle.runs.proofs.Tied.{moves-on}
 use Rattle.conditions.specs.declared.Condition.{Condition}
 use Rattle.conditions.specs.Conditions.{answerFinite, holdsOf}
@@ -24,9 +25,8 @@ use Rattle.backtracking.specs.declared.Turn.{Turn}
 use Rattle.backtracking.specs.declared.Started.the-variants.{Began}
 use Rattle.backtracking.specs.Backtracking.{defaultsOf, startRows, setupOf, trials, backtracking}
 use Rattle.backtracking.specs.Meaning.{meaning, meant, Starts, Follows}
-use Rattle.backtracking.proofs.Bridge.{question-at}
 use Rattle.demands.specs.Backtracking.{EmptyShutOut}
-use Rattle.demands.proofs.Trials.{ranges, limit-left, trials-rest, trials-end}
+use Rattle.demands.proofs.Trials.{ranges, limit-left, trials-end}
 use Rattle.demands.proofs.Trials.{no-refusal, asks-next, asks-shorter}
 
 -- ---- a state that awaits an answer at x stands for a trial there
@@ -36,22 +36,13 @@ record Waits (s : Setup) (x : Float) (r : Rest ℕ) : Type 0 where
   now : ℕ
   stands : r ≡ trials s left before now x
 
-at-trial : (s : Setup) (k before now : ℕ) (t x : Float) → awaits (trials s k before now t) ≡ some x
-    → Waits s x (trials s k before now t)
-unfolding awaits
-at-trial s k before now t x e = record {
-  left = k;
-  before = before;
-  now = now;
-  stands = ap (trials s k before now)
-      (Option·some-injective t x (sym (ap awaits (question-at s k before now t .1)) ∙ e));
-}
-
 waits : (s : Setup) (i : ℕ) (stage : Stage) (x : Float) → awaits (meaning s i stage) ≡ some x
     → Waits s x (meaning s i stage)
 unfolding meaning awaits
-waits s i First x e = at-trial s _ _ _ _ x e
-waits s i (Later t) x e = at-trial s _ _ _ _ x e
+waits s i First x e =
+    record { left = _; before = i; now = i; stands = ap (trials s _ _ _) (Option·some-injective _ x e) }
+waits s i (Later t) x e =
+    record { left = _; before = i; now = oneMore i; stands = ap (trials s _ _ _) (Option·some-injective t x e) }
 waits s i Over x e = absurd (Option·none-ne-some x e)
 
 -- what meets `Starts` stands for the first trial
@@ -71,24 +62,21 @@ module _ (s : Setup) (x : Float) (b : Backtracking) (at : Waits s x (meant b)) (
   tells : told (r .outcome) ≡ shown (respond here f g)
   tells = by .tells ∙ ap (λ (q : Rest ℕ). shown (respond q f g)) (at .stands)
 
-  open-here : isOver here ≡ false
-  unfolding isOver
-  open-here = ap isOver (question-at s (at .left) (at .before) (at .now) x .1)
-
   -- a state handed back untouched would stand for the same search
   untouched : r .search ≡ b → onceTold here ≡ onceTold (respond here f g)
+  unfolding onceTold
   untouched same =
-      trials-rest s (at .left) (at .before) (at .now) x ∙ sym (at .stands) ∙ sym (ap meant same) ∙ by .leaves
-      ∙ ap (λ (q : Rest ℕ). onceTold (respond q f g)) (at .stands)
+      sym (at .stands) ∙ sym (ap meant same) ∙ by .leaves ∙ ap (λ (q : Rest ℕ). onceTold (respond q f g)) (at .stands)
 
   shut-out : EmptyShutOut s x b f g r
+  unfolding isOver
   shut-out = record {
     refusing = λ p q n e.
         Option·none-ne-some n
-        (sym (ap refusalIn tells ∙ no-refusal s (at .before) (at .now) x f g (at .left) p q) ∙ e);
-    same-step = λ differs e. differs (asks-next s (at .before) (at .now) x f g (at .left) x (sym tells ∙ e));
+        (sym (ap refusalIn tells ∙ no-refusal s (at .now) x f g (at .left) (at .before) p q) ∙ e);
+    same-step = λ differs e. differs (asks-next s (at .now) x f g (at .left) (at .before) x (sym tells ∙ e));
     untouched = λ same.
-        moves-on here (trials-end s (at .left) (at .before) (at .now) x) open-here f g (untouched same);
+        moves-on here (trials-end s (at .left) (at .before) (at .now) x) refl f g (untouched same);
   }
 
 pub first-shut-out : (o : Options) (f0 s0 : Float) (t : Turn) → Starts o f0 s0 (Began t) → (f g : Float) (r : Turn)
@@ -111,7 +99,7 @@ unfolding begun
 second-ask o f0 s0 t starts f g p h q r by =
     let at = begun o f0 s0 t starts in
     by .tells ∙ ap (λ (c : Rest ℕ). shown (respond c f g)) (at .1 .stands)
-    ∙ asks-shorter (setupOf o f0 s0) 0 0 (o .alpha) f g (o .limit) (limit-left o (ranges o f0 s0 (at .0))) p h q
+    ∙ asks-shorter (setupOf o f0 s0) 0 (o .alpha) f g (o .limit) 0 (limit-left o (ranges o f0 s0 (at .0))) p h q
 
 -- with argmin's defaults alpha * rho is not alpha
 pub defaults-shrink : (C : Condition) → let o = defaultsOf C in o .alpha ⊗ o .rho ≡ o .alpha → ⊥
