@@ -2,12 +2,10 @@
 -- rules (hagerzhang_rules/proofs/Demand3.antt), which the machine tells, holds and counts. Assumes nothing.
 use mathlib.Core.Path.{_≡_, refl, sym, ap, _∙_, subst}
 use mathlib.Core.List.{List, _∷_}
-use Prim.Native.Nat.{_≤_}
 use native.Mathlib.Nat.{le-trans}
 use lib.Ieee.{Float}
 use Rattle.refusals.specs.Results.{value}
 use Rattle.runs.specs.Outcomes.{Ending, stop, limit, refusal, Why, numbered}
-use Rattle.runs.specs.Asking.{Reply}
 use Rattle.runs.proofs.Tied.{ends-in-time, finite-bounded, finite-counted, not-finite-once}
 use Rattle.refusals.proofs.Refusals.{Passed, passed}
 use Rattle.hagerzhang_rules.specs.declared.Point.{Point}

@@ -1,6 +1,6 @@
 -- What the head of a field says, by the places of the bytes; and what is known of a field that is whole. Assumes
 -- nothing.
-use mathlib.Core.Path.{_≡_, refl, ap, _∙_}
+use mathlib.Core.Path.{_≡_, refl, sym, ap, _∙_}
 use mathlib.Core.Bool.{Bool, true, false, cond}
 use mathlib.Core.List.{List, [], _∷_, _++_}
 use Prim.Native.Nat.{ℕ, _+_, _-_, _*_, _≤_, _<_}
@@ -48,23 +48,23 @@ pub record Opens (s : List ℕ) (tag n : ℕ) : Type 0 where
   pub size : high * 256 + low ≡ n
   pub long : n ≤ length rest
 
+not-cut : {A : Type 0} (tag n : ℕ) → Cut ≡ Tagged tag n → A
+not-cut tag n h = let z : _≡_ {A = ℕ} 0 1 = cc in absurd (omega arith)
+
 is-cut : (b : Bool) (k m : ℕ) → cond b (Tagged k m) Cut ≡ Cut → b ≡ false
-is-cut true k m h = let z : _≡_ {A = ℕ} 0 1 = cc in absurd (omega arith)
+is-cut true k m h = not-cut k m (sym h)
 is-cut false k m h = refl
 
 module _ (tag n : ℕ) where
-  not-cut : {A : Type 0} → Cut ≡ Tagged tag n → A
-  not-cut h = let z : _≡_ {A = ℕ} 0 1 = cc in absurd (omega arith)
-
   is-whole : (b : Bool) (k m : ℕ) → cond b (Tagged k m) Cut ≡ Tagged tag n → (b ≡ true) × (k ≡ tag) × (m ≡ n)
   is-whole true k m h = (refl, cc, cc)
-  is-whole false k m h = not-cut h
+  is-whole false k m h = not-cut tag n h
 
   opens : (s : List ℕ) → headOf s ≡ Tagged tag n → Opens s tag n
   unfolding headOf
-  opens [] h = not-cut h
-  opens (k ∷ []) h = not-cut h
-  opens (k ∷ high ∷ []) h = not-cut h
+  opens [] h = not-cut tag n h
+  opens (k ∷ []) h = not-cut tag n h
+  opens (k ∷ high ∷ []) h = not-cut tag n h
   opens (k ∷ high ∷ low ∷ rest) h =
       let m = high * 256 + low in
       let w = is-whole (leb m (length rest)) k m h in

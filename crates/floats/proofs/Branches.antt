@@ -34,14 +34,6 @@ pub by-cases₂ : {A B : Type 0} (P : A → B → Type 0) (b : Bool) {x y : A} {
 by-cases₂ P true p q = p refl
 by-cases₂ P false p q = q refl
 
--- the same of what is computed from the choice, where the test does not matter
-pub either : {X A : Type 0} (h : X → A) (b : Bool) (x y : X) (v : A) → h x ≡ v → h y ≡ v → h (cond b x y) ≡ v
-either h b x y v p q = by-cases (λ z. h z ≡ v) b (λ e. p) (λ e. q)
-
-pub by-test : {X A : Type 0} (h : X → A) (b : Bool) (x y : X) (v w : A) → h x ≡ v → h y ≡ w
-    → h (cond b x y) ≡ cond b v w
-by-test h b x y v w p q = by-cases₂ (λ z u. h z ≡ u) b (λ e. p) (λ e. q)
-
 -- ---- the parts of a test of several
 pub both : (a b : Bool) → a ≡ true → b ≡ true → (a && b) ≡ true
 both a b e h = rw (e, h)

@@ -1,5 +1,5 @@
 -- The way of an answer in an iteration: what it comes to, and what follows. Bookkeeping.
-use Prim.Native.Nat.{ℕ, _-_}
+use Prim.Native.Nat.{ℕ}
 use lib.Ieee.{Float}
 use Rattle.runs.specs.Counters.{oneMore, iterations}
 use Rattle.hagerzhang_rules.specs.declared.Bracket.{Bracket}

@@ -2,7 +2,6 @@
 -- `answerOf`, `heldOf`, `awaitedOf`), and nobody needs to read how. specs/Meaning.antt says what a state stands for in
 -- 01's rules, proofs/Bridge.antt that every step is the rules' step, and demands/proofs/Along.antt the same for any
 -- list of answers.
-use Prim.Native.Nat.{_-_}
 use mathlib.Core.Path.{_≡_}
 use mathlib.Core.Bool.{cond}
 use lib.Ieee.{Float}

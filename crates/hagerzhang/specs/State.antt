@@ -1,6 +1,6 @@
 -- How a state is built: a step is asked, the search is over, and the search with its outcome. Bookkeeping, as all
 -- of specs/ but Meaning.antt.
-use Prim.Native.Nat.{ℕ, _-_}
+use Prim.Native.Nat.{ℕ}
 use lib.Ieee.{Float}
 use Rattle.runs.specs.declared.Evaluations.{Evaluations}
 use Rattle.runs.specs.declared.Outcome.{Outcome}

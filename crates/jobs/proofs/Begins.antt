@@ -5,10 +5,9 @@ use mathlib.Core.Path.{_≡_, refl, ap}
 use mathlib.Core.Bool.{false, not}
 use mathlib.Core.List.{List}
 use Prim.Native.Nat.{ℕ}
-use native.Mathlib.Omega.{arith}
 use borrow.Author.Tests.{not-false}
 use Rattle.refusals.specs.Results.{Result, value, refused}
-use Rattle.refusals.proofs.Refusals.{Passed, and, passed, value-given}
+use Rattle.refusals.proofs.Refusals.{Passed, and, passed, refused-not-value, value-given}
 use Rattle.hagerzhang_rules.specs.Parameters.{paramsFinite, suppliedFinite, startRows}
 use Rattle.curves.specs.declared.Curve.{Curve}
 use Rattle.curves.specs.Curves.{hasNumber}
@@ -52,7 +51,7 @@ module _ (bytes : List ℕ) (c : Curve) (t : Turn) where
         accepted = ok;
         started = rw (← step) (value-given (startRows (j .options) (f0Of j) (s0Of j)) (freshOf (setupFor j)) ok);
       }
-  with-job (refused n) is h = let z : _≡_ {A = ℕ} 0 1 = cc in absurd (omega arith)
+  with-job (refused n) is h = absurd (refused-not-value n (c, t) h)
 
   pub begun : beginOf bytes ≡ value (c, t) → Begins bytes c t
   begun h = with-job (jobOf bytes) refl h

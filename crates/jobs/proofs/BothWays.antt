@@ -4,13 +4,14 @@
 use mathlib.Core.Path.{_≡_, refl, sym, ap, ap₂, _∙_, subst}
 use mathlib.Core.Bool.{Bool, true, false, cond}
 use mathlib.Core.List.{List, [], _∷_, _++_}
-use mathlib.Core.Option.{Option, some, none}
+use mathlib.Core.Option.{Option, some, none, Option·none-ne-some}
 use Prim.Native.Nat.{ℕ, suc, _+_, _≤_, _<_}
 use native.Mathlib.Omega.{arith}
 use lib.Dec.{eqb}
 use lib.ListN.{length, drop, length-drop}
 use borrow.Author.Tests.{eq-eqb, ne-eqb, eqb-true, eqb-false}
 use Rattle.refusals.specs.Results.{Result, value, refused}
+use Rattle.refusals.proofs.Refusals.{refused-not-value}
 use Rattle.hagerzhang_rules.specs.declared.Options.{Options}
 use Rattle.fields.specs.Fields.{Field, written, headOf, bodyOf, endOf}
 use Rattle.fields.proofs.Heads.{end-there, body-length}
@@ -130,8 +131,7 @@ unknown tag n h e =
       far 5 (omega arith),
       far 6 (omega arith),
     ) at e in
-    let o : _≡_ {A = ℕ} 0 1 = cc in
-    omega arith
+    Option·none-ne-some n z
 
 none-left : (fs : List Field) (s : List ℕ) → WellFormed 6 fs s → length s ≡ 0
 none-left [] [] nothing = refl
@@ -208,12 +208,12 @@ pub record Encodes (s : List ℕ) (j : Job) : Type 0 where
   pub holds : WellFormed 0 fields s
   pub means : meansOf fields ≡ value j
 
-not-refused : (b : Bool) (a : Result Job) (j : Job) → cond b a (refused 9) ≡ value j → b ≡ true
-not-refused true a j e = refl
-not-refused false a j e = let z : _≡_ {A = ℕ} 0 1 = cc in absurd (omega arith)
+is-read : (b : Bool) (a : Result Job) (j : Job) → cond b a (refused 9) ≡ value j → b ≡ true
+is-read true a j e = refl
+is-read false a j e = absurd (refused-not-value 9 j e)
 
 nothing-left : (s : List ℕ) (j : Job) → jobOf s ≡ value j → length (left s) ≡ 0
-nothing-left s j e = eqb-true (length (left s)) 0 (not-refused (eqb (length (left s)) 0) (whole s) j e)
+nothing-left s j e = eqb-true (length (left s)) 0 (is-read (eqb (length (left s)) 0) (whole s) j e)
 
 -- ---- 01's row 9, "the job is malformed", by the format: a job is what the fields say that the bytes hold
 

@@ -1,7 +1,7 @@
 -- A field that stands at a place of the job, and the part of the job that is its body, in the reader's terms. Assumes
 -- nothing.
 use mathlib.Core.Path.{_≡_, sym, ap, ap₂, _∙_}
-use mathlib.Core.Bool.{true, false}
+use mathlib.Core.Bool.{true, false, false≢true}
 use mathlib.Core.List.{List, [], _∷_}
 use Prim.Native.Nat.{ℕ, zero, suc, _+_, _-_, _≤_}
 use native.Mathlib.Omega.{arith}
@@ -24,7 +24,7 @@ is-field tag n (Tagged k m) e =
     let first = eqb-true k tag (and-first (eqb k tag) (eqb m n) e) in
     let second = eqb-true m n (and-second (eqb k tag) (eqb m n) e) in
     ap₂ Tagged first second
-is-field tag n Cut e = let z : _≡_ {A = ℕ} 0 1 = cc in absurd (omega arith)
+is-field tag n Cut e = absurd (false≢true e)
 
 -- what the head of a field says that stands there
 pub its-head : (tag n : ℕ) (s : List ℕ) → stands tag n s ≡ true → headOf s ≡ Tagged tag n

@@ -4,10 +4,9 @@ use mathlib.Core.Path.{_≡_, refl, sym, ap, _∙_}
 use mathlib.Core.Bool.{Bool, true, false, not}
 use mathlib.Core.List.{List, [], _∷_}
 use Prim.Native.Nat.{ℕ}
-use native.Mathlib.Omega.{arith}
 use borrow.Author.Tests.{not-false}
 use Rattle.refusals.specs.Results.{Result, value, refused, Row, refuse_else_}
-use Rattle.refusals.proofs.Refusals.{Passed, and, all, passed, alike}
+use Rattle.refusals.proofs.Refusals.{Passed, and, all, passed, refused-not-value, alike}
 use Rattle.hagerzhang_rules.specs.Parameters.{paramsFinite, rangeRows}
 use Rattle.curves.specs.declared.Curve.{Curve}
 use Rattle.curves.specs.Curves.{hasNumber, numberedAt, curveRows, numberedOf}
@@ -30,7 +29,7 @@ on-rows c rows t = alike (on c) (λ r. r) (λ n. refl) t (c, t) refl rows
 one-row : {A B : Type 0} (n m : ℕ) (b : Bool) (a : A) (rows : List Row) (x : B)
     → refused n ≡ (refuse (m, b) ∷ [] else a) → refused n ≡ (refuse (m, b) ∷ rows else x)
 one-row n m true a rows x e = let same : n ≡ m = cc in ap refused same
-one-row n m false a rows x e = let z : _≡_ {A = ℕ} 0 1 = cc in absurd (omega arith)
+one-row n m false a rows x e = absurd (refused-not-value n a e)
 
 has-number : (n : ℕ) → Passed (curveRows n) → hasNumber n ≡ true
 has-number n (and three all) = not-false _ three

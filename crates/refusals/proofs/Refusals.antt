@@ -42,8 +42,8 @@ pub data Passed : List Row → Type 0 where
   and : {n : ℕ} {c : Bool} {rows : List Row} → c ≡ false → Passed rows → Passed ((n, c) ∷ rows)
 
 module _ {A : Type 0} where
-  not-refused : (n : ℕ) (a : A) → refused n ≡ value a → ⊥
-  not-refused n a e = Option·none-ne-some n (sym (ap refusedBy e))
+  pub refused-not-value : (n : ℕ) (a : A) → refused n ≡ value a → ⊥
+  refused-not-value n a e = Option·none-ne-some n (sym (ap refusedBy e))
 
   same-value : (a b : A) → value a ≡ value b → a ≡ b
   same-value a b e = cc
@@ -52,7 +52,7 @@ module _ {A : Type 0} where
   pub passed : (rows : List Row) (a b : A) → (refuse rows else a) ≡ value b → Passed rows × (a ≡ b)
   passed [] a b = λ e. (all, same-value a b e)
   passed (r ∷ rows) a b =
-      by-cases (λ q. q ≡ value b → Passed (r ∷ rows) × (a ≡ b)) (r .1) (λ t e. absurd (not-refused (r .0) b e))
+      by-cases (λ q. q ≡ value b → Passed (r ∷ rows) × (a ≡ b)) (r .1) (λ t e. absurd (refused-not-value (r .0) b e))
       (λ t e. let p = passed rows a b e in (and t (p .0), p .1))
 
   -- and where no row holds, it is
@@ -61,7 +61,7 @@ module _ {A : Type 0} where
   value-given (r ∷ rows) a (and t p) = rw t (value-given rows a p)
 
   pub never-refused : (rows : List Row) (a : A) → Passed rows → (n : ℕ) → refused n ≡ (refuse rows else a) → ⊥
-  never-refused rows a p n e = not-refused n a (e ∙ value-given rows a p)
+  never-refused rows a p n e = refused-not-value n a (e ∙ value-given rows a p)
 
 -- two results by the same rows, each read in its way: alike where the values are, and every refusal
 pub alike : {A B T : Type 0} (h : Result A → T) (k : Result B → T) → ((n : ℕ) → h (refused n) ≡ k (refused n))
