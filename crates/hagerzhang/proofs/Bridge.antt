@@ -10,12 +10,12 @@ use lib.Ieee.{Float, isNan}
 use lib.Ieee.Scale.{finite}
 use borrow.Author.Tests.{leb-true, leb-false, ne-eqb}
 use Rattle.floats.specs.Arithmetic.{_<ᶠ_}
-use Rattle.refusals.specs.Results.{Result, value, refused}
-use Rattle.runs.specs.Outcomes.{limit, refusal, Told, ends, told}
+use Rattle.refusals.specs.Results.{Result}
+use Rattle.runs.specs.Outcomes.{limit, Told, told}
 use Rattle.runs.specs.Asking.{Rest, endWith, keeping, respond, shown, firstOf, onceTold}
 use Rattle.runs.specs.Counters.{oneMore, evaluations, iterations}
 use Rattle.runs.proofs.Machines.{Seen, seen, counts-on}
-use Rattle.refusals.proofs.Refusals.{alike}
+use Rattle.runs.proofs.Begins as starting
 use Rattle.runs.specs.declared.Evaluations.{Evaluations}
 use Rattle.floats.proofs.Branches.{by-cases, by-cases₂, and-first, and-second}
 use Rattle.hagerzhang.specs.declared.state.Asked.{Asked}
@@ -260,31 +260,26 @@ first-asked : (s : Setup) → told (freshOf s .outcome) ≡ shown (hagerZhang s)
 unfolding shown hagerZhang
 first-asked s = refl
 
--- what a result of a start stands for, and what it says
-unfoldable pub stands : Result Turn → Result (Rest Report)
-stands (value t) = value (meant (t .search))
-stands (refused n) = refused n
+-- what a result of a start stands for, and what it says, are the rules'
+abbrev stands : Result Turn → Result (Rest Report)
+stands = starting.stands (λ (t : Turn). meant (t .search)) (λ (t : Turn). told (t .outcome))
 
-unfoldable pub says : Result Turn → Told
-says (value t) = told (t .outcome)
-says (refused n) = ends (refusal n)
+abbrev says : Result Turn → Told
+says = starting.says (λ (t : Turn). meant (t .search)) (λ (t : Turn). told (t .outcome))
 
--- both are the rules'
 module _ (o : Options) (f0 s0 : Float) where
   start-stands : stands (startOf o f0 s0) ≡ begun o f0 s0
-  unfolding stands
   start-stands =
       let s = setupOf o f0 s0 in
-      alike stands (λ v. v) (λ n. refl) (freshOf s) (hagerZhang s) (ap value (starts-whole s)) (startRows o f0 s0)
+      starting.stands-so _ _ (startRows o f0 s0) (freshOf s) (hagerZhang s) (starts-whole s)
 
   start-says : says (startOf o f0 s0) ≡ firstOf (begun o f0 s0)
-  unfolding says
   start-says =
       let s = setupOf o f0 s0 in
-      alike says firstOf (λ n. refl) (freshOf s) (hagerZhang s) (first-asked s) (startRows o f0 s0)
+      starting.says-so _ _ (startRows o f0 s0) (freshOf s) (hagerZhang s) (first-asked s)
 
   pub starts : (r : Started) → StartSaid o f0 s0 r → Starts o f0 s0 r
-  unfolding stands says
+  unfolding starting.stands starting.says
   starts (Began t) e = record { stands-for = ap stands e ∙ start-stands; tells-first = ap says e ∙ start-says }
   starts (NoSearch k) e = record { stands-for = ap stands e ∙ start-stands; tells-first = ap says e ∙ start-says }
 

@@ -1,6 +1,6 @@
 -- One answer: what the machine comes to against what the rules come to, and a counter that goes up. Once for every
 -- search. Assumes nothing.
-use mathlib.Core.Path.{_≡_, refl}
+use mathlib.Core.Path.{_≡_}
 use mathlib.Core.Bool.{Bool, true, false, cond}
 use Prim.Native.Nat.{ℕ, _+_, _<_}
 use native.Mathlib.Omega.{arith}
@@ -17,18 +17,6 @@ Seen K = Rest K × Told
 module _ {K : Type 0} where
   unfoldable pub seen : Rest K → Seen K
   seen r = (onceTold r, shown r)
-
-  -- a choice means the choice of what each means
-  pub picks : {A : Type 0} (d : A → Seen K) (b : Bool) (x y : A) (m n : Rest K) → d x ≡ seen m → d y ≡ seen n
-      → d (cond b x y) ≡ seen (cond b m n)
-  picks d true x y m n p q = p
-  picks d false x y m n p q = q
-
-  -- and by what the test says
-  pub picks-by : {A : Type 0} (d : A → Seen K) (b : Bool) (x y : A) (m n : Rest K)
-      → (b ≡ true → d x ≡ seen m) → (b ≡ false → d y ≡ seen n) → d (cond b x y) ≡ seen (cond b m n)
-  picks-by d true x y m n p q = p refl
-  picks-by d false x y m n p q = q refl
 
 -- a counter that an accepted answer raises
 pub adds-one : (a : Bool) (n m k : ℕ) → n < 4294967295 → k ≡ cond a (oneMore n) n → k + m ≡ n + (cond a 1 0 + m)
