@@ -15,7 +15,8 @@ use Rattle.conditions.specs.Conditions.{constantsFinite, inRange, answerFinite,
 use Rattle.backtracking.specs.declared.Options.{Options}
 use Rattle.backtracking.specs.declared.Setup.{Setup}
 
--- ---- 01, "Parameters": "rho 0.9 in (0, 1); alpha 1, > 0"; "iteration limit N is 1 to 10,000 (default 100)"
+-- ---- 01, "Parameters": "rho 0.9 in (0, 1); alpha 1, > 0"; "Numbers in, numbers refused": "iteration limit N is 1 to
+-- 10,000 (default 100)"
 
 abbrev pub defaultsOf : Condition → Options
 defaultsOf C = record {

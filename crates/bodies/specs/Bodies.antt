@@ -1,4 +1,4 @@
--- What the body of a well-formed field says.
+-- What the body of a case file's well-formed field says.
 use Prim.Native.Nat.{ℕ, zero, suc}
 use mathlib.Core.Bool.{cond}
 use mathlib.Core.List.{List, [], _∷_}

@@ -122,7 +122,7 @@ pub fn answer(body: &[u8]) -> Reply
 }
 
 // The place at, or the end where that comes first.
-fn within(body: &[u8], at: usize) -> usize
+fn clamped(body: &[u8], at: usize) -> usize
     ensures { λ r. ⌜ (r ≤ length (now (body .entry))) × (drop r (now (body .entry)) ≡ drop at (now (body .entry))) ⌝ }
 {
     let n = body.len();
@@ -143,7 +143,7 @@ fn next(body: &[u8], at: usize) -> usize
 pub fn floats(body: &[u8], at: usize, v: &mut [f64])
     ensures { λ _. ⌜ now (v .exit) ≡ floatsOf (length (now (v .entry))) (drop at (now (body .entry))) ⌝ }
 {
-    let mut p = within(body, at);
+    let mut p = clamped(body, at);
     let mut i = 0;
     while i < v.len() {
         v[i] = float(body, p);

@@ -43,9 +43,9 @@ fn refused(r: Refusal) -> Told {
     }
 }
 
-fn from_hager_zhang(step: hagerzhang::Turn) -> Told {
-    let outcome = step.outcome;
-    let s = step.search;
+fn from_hager_zhang(turn: hagerzhang::Turn) -> Told {
+    let outcome = turn.outcome;
+    let s = turn.search;
     let evaluations = s.evaluations;
     let kept = hagerzhang::held(s);
     Told {
@@ -56,9 +56,9 @@ fn from_hager_zhang(step: hagerzhang::Turn) -> Told {
     }
 }
 
-fn from_backtracking(step: backtracking::Turn) -> Told {
-    let outcome = step.outcome;
-    let s = step.search;
+fn from_backtracking(turn: backtracking::Turn) -> Told {
+    let outcome = turn.outcome;
+    let s = turn.search;
     let evaluations = s.evaluations;
     let iterations = s.iterations;
     Told {
@@ -72,7 +72,7 @@ fn from_backtracking(step: backtracking::Turn) -> Told {
 pub(crate) fn hager_zhang(body: &[u8]) -> Told {
     let b = bodies::hager_zhang(body);
     match hagerzhang::start(b.options, b.f0, b.s0) {
-        hagerzhang::Started::Began(step) => from_hager_zhang(step),
+        hagerzhang::Started::Began(turn) => from_hager_zhang(turn),
         hagerzhang::Started::NoSearch(r) => refused(r),
     }
 }
@@ -80,7 +80,7 @@ pub(crate) fn hager_zhang(body: &[u8]) -> Told {
 pub(crate) fn backtracks(body: &[u8]) -> Told {
     let b = bodies::backtracking(body);
     match backtracking::start(b.options, b.f0, b.s0) {
-        backtracking::Started::Began(step) => from_backtracking(step),
+        backtracking::Started::Began(turn) => from_backtracking(turn),
         backtracking::Started::NoSearch(r) => refused(r),
     }
 }

@@ -1,4 +1,2 @@
-// The theorems that stand over all the crates below: no code stands here. specs/ has 01's table of refusals, function
-// by function; proofs/ shows that each is given exactly then and what it leaves (Refusals), that any two results which
-// a contract allows are identical (Determined), and demands 2 and 3 for any list of answers: Demand2, Demand3 and
-// Untouched for Hager-Zhang, Backtracking.
+// The theorems over all the crates below: no code stands here. specs/ states them: Demand1, Demand2, Demand3,
+// Backtracking and Determined, over Runs. proofs/ shows each in the file of its name; the other files lead there.

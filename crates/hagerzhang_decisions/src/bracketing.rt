@@ -1,4 +1,4 @@
-// 01's rules that move the bracket, each as a decision on points and floats: the update, the secant, S1 to S4 and L2
+// 01's rules that move the bracket, each as a decision on points and floats: the update, the secant, S2 to S4 and L2
 // (argmin's hagerzhang.rs: update, secant, secant2).
 
 use hagerzhang_rules::Bracket;

@@ -1,6 +1,6 @@
 -- 01, "The twelve marked sums", about the rules of specs/Rules.antt and of the conditions: one list, as 01 writes it,
--- in a setup that 01 accepts. What a sum does not fix, it is said for. Proved as a single claim, `marked-sums`
--- (proofs/MarkedSums.antt).
+-- in a setup that 01 accepts. A sum holds for every value of what 01 leaves open in it. Proved as a single claim,
+-- `marked-sums` (proofs/MarkedSums.antt).
 use mathlib.Core.Path.{_≡_}
 use mathlib.Core.Bool.{Bool, true, false}
 use mathlib.Core.Logic.{_⊎_, inl, inr}

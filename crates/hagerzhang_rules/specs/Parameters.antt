@@ -100,7 +100,7 @@ levelOf o f0 = f0 ⊕ epsilonK o f0
 abbrev pub setupOf : Options → Float → Float → Setup
 setupOf o f0 s0 = record { options = o; f0 = f0; s0 = s0; level = levelOf o f0 }
 
--- ---- the refusals of a start, in 01's order: 2 over all supplied numbers, then
+-- ---- the refusals of a start, in 01's order: 2 over all supplied numbers; then 3 and 4, which a job shares
 
 -- 3, over all ranges, and 4: ".. epsilon_k or L comes out not finite"
 abbrev pub rangeRows : Options → Float → List Row

@@ -1,5 +1,5 @@
--- 01, "Number rules": the finite test and the absolute value. A finite number is neither a NaN nor an infinity:
--- `finite` of lib.Ieee.Scale, which is false at `nan` and `inf` and true at every other float.
+-- 01, "finite test, absolute value" (the first row of its modules; "Number rules"). A finite number is neither a NaN
+-- nor an infinity: `finite` of lib.Ieee.Scale, which is false at `nan` and `inf` and true at every other float.
 use mathlib.Core.Bool.{Bool, false, _&&_}
 use lib.Ieee.{Float, nan, inf, fin}
 use lib.Ieee.Scale.{finite}

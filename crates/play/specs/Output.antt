@@ -14,7 +14,7 @@ use Rattle.play.specs.Telling.{telling, textOf}
 abbrev pub searchText : Job → List ℕ
 searchText j = textOf (telling (curveOf j) 0 (hagerZhang (setupFor j)))
 
--- "or `REFUSED n` alone"
+-- "or `REFUSED n` alone after the ASK lines", of which there are none here
 abbrev pub orRefused : Result (List ℕ) → List ℕ
 orRefused (value text) = text
 orRefused (refused n) = refusedLine n

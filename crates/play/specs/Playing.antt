@@ -19,7 +19,7 @@ use Rattle.play.specs.declared.Played.the-variants.{Pending, Done}
 use Rattle.play.specs.declared.Written.{Written}
 use Rattle.play.specs.Telling.{Said, textOf}
 
--- what a step says
+-- what a turn says
 abbrev pub saidOf : Turn → Said
 saidOf t = record {
   told = told (t .outcome);

@@ -9,7 +9,7 @@ ghost use Rattle.text.specs.Text.{Writes};
 ghost use Rattle.play.specs.Telling.{saidLine};
 ghost use Rattle.play.specs.Playing.{saidOf, answeredOf, PlaySaid};
 
-// A play goes on with a step whose outcome is still to be told, or everything is told.
+// A play goes on with a turn whose outcome is still to be told, or everything is told.
 pub enum Played {
     Pending(Turn),
     Done,
@@ -21,7 +21,7 @@ pub struct Written {
     pub at: usize,
 }
 
-// The line of a step's outcome.
+// The line of a turn's outcome.
 fn line(out: &mut [u8], at: usize, t: Turn) -> usize
     ensures { λ r. ⌜ Writes (now (out .entry)) at (saidLine (saidOf t)) (now (out .exit)) r ⌝ }
 {

@@ -1,5 +1,5 @@
 -- 01's table "Numbers in, numbers refused": its numbers, its order, and what it means to be refused by it. The rows,
--- with their "Given exactly when", are filled in by the definitions of the crates above.
+-- with their "Given exactly when", are filled in by the crates that stand on this one.
 use Prim.Native.Nat.{ℕ}
 use mathlib.Core.Path.{_≡_}
 use mathlib.Core.Bool.{Bool, true, false, cond}

@@ -23,7 +23,7 @@ loop-holds : tie.Need-loop-holds Inv-loop μ-loop
 loop-holds c =
     let n = length (now (c .before .before .before .args .v)) in
     let all : n - 0 ≡ n = omega arith in
-    (omega arith, refl, c .within .ensures .0, rw (c .within .ensures .1, all))
+    (omega arith, refl, c .clamped .ensures .0, rw (c .clamped .ensures .1, all))
 
 loop-again : tie.Need-loop-again Inv-loop μ-loop
 loop-again c =

@@ -1,13 +1,13 @@
--- `bodies::within` meets its contract. Assumes nothing.
+-- `bodies::clamped` meets its contract. Assumes nothing.
 use borrow.Author.Needs.{needs}
 use native.Mathlib.Nat.{le-refl}
 use denote.Ref.{now}
 use Rattle.bodies.proofs.Runs.{both-past}
-use Rattle.bodies.proofs.within.Statement.{statement}
-use Rattle.bodies.proofs.within.Tie as tie
+use Rattle.bodies.proofs.clamped.Statement.{statement}
+use Rattle.bodies.proofs.clamped.Tie as tie
 
-pub within-spec : {M : Type 1} → statement M
-within-spec =
+pub clamped-spec : {M : Type 1} → statement M
+clamped-spec =
     tie.close
     (tie.spec
     (λ c. search needs)
