@@ -12,7 +12,7 @@ use Rattle.refusals.specs.Results.{Result, value, refused}
 use Rattle.wire.specs.Wire.{byteAt, pairOf, floatOf}
 use Rattle.fields.specs.Fields.{Field, written}
 use Rattle.hagerzhang_rules.specs.declared.Options.{Options}
-use Rattle.hagerzhang_rules.specs.Parameters.{defaultOptions}
+use Rattle.hagerzhang_rules.specs.Parameters.{defaultOptions, optionsWith}
 use Rattle.jobs.specs.declared.Job.{Job}
 
 -- "Tags: 1 curve (1 byte, required), 2 bounds (16), 3 start step (8), 4 epsilon (8), 5 B (2), 6 N (2)": how long the
@@ -51,21 +51,11 @@ floatIn skip body = floatOf (drop skip body)
 -- what the bodies of the tags 2 to 6 say; what is absent has its default
 unfoldable pub optionsOf : Option (List ℕ) → Option (List ℕ) → Option (List ℕ) → Option (List ℕ) → Option (List ℕ)
     → Options
-optionsOf bounds start epsilon budget limit = record {
-  params = record {
-    delta = defaultOptions .params .delta;
-    sigma = defaultOptions .params .sigma;
-    epsilon = said floatOf epsilon (defaultOptions .params .epsilon);
-    theta = defaultOptions .params .theta;
-    gamma = defaultOptions .params .gamma;
-    eta = defaultOptions .params .eta;
-    min = said floatOf bounds (defaultOptions .params .min);
-    max = said (floatIn 8) bounds (defaultOptions .params .max);
-    start = said floatOf start (defaultOptions .params .start);
-  };
-  budget = said pairOf budget (defaultOptions .budget);
-  limit = said pairOf limit (defaultOptions .limit);
-}
+optionsOf bounds start epsilon budget limit =
+    let q = defaultOptions .params in
+    optionsWith (said floatOf epsilon (q .epsilon)) (said floatOf bounds (q .min)) (said (floatIn 8) bounds (q .max))
+    (said floatOf start (q .start)) (said pairOf budget (defaultOptions .budget))
+    (said pairOf limit (defaultOptions .limit))
 
 -- with tag 1: "missing tag 1 is refusal 9"
 unfoldable pub decoded : Option (List ℕ) → Options → Result Job
