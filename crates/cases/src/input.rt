@@ -1,28 +1,42 @@
 // The input, of which a part is in memory.
 
-use libc::STDIN_FILENO;
+use fields::Heading;
+use streams::Received;
 ghost use Prim.Native.Nat.{_≤_, _<_};
 ghost use lib.ListN.{length};
 
-// What is left of the input in memory, moved to the front, and as much more as there is room for.
-pub(crate) fn refilled(buf: &mut [u8], from: usize, to: usize) -> usize
-    requires { ⌜ (from ≤ to) × (to ≤ length (now buf)) ⌝ }
-    ensures { λ r. ⌜ r ≤ length (now (buf .exit)) ⌝ }
-{
-    let mut i = 0;
-    while i < to - from {
-        buf[i] = buf[from + i];
-        i += 1;
-    }
-    i + io::read_full(STDIN_FILENO, &mut buf[i..])
+// The part in memory: the buffer begins with byte `base` of the input, and holds it up to `to`; what is before `from` is
+// served. The input has ended, or a read has failed, or more may come.
+pub(crate) struct Window {
+    pub(crate) base: u64,
+    pub(crate) from: usize,
+    pub(crate) to: usize,
+    pub(crate) ended: bool,
+    pub(crate) lost: bool,
 }
 
-// The place behind the field at from, where there is input up to to.
-pub(crate) fn beyond(buf: &[u8], from: usize, to: usize) -> usize
-    requires { ⌜ (from < to) × (to ≤ length (now buf)) ⌝ }
-    ensures { λ r. ⌜ r ≤ to ⌝ }
+pub(crate) fn opened() -> Window
+    ensures { λ r. ⌜ (r .from ≤ r .to) × (r .to ≤ 0) ⌝ }
 {
-    from + fields::end(&buf[from..to])
+    Window {
+        base: 0,
+        from: 0,
+        to: 0,
+        ended: false,
+        lost: false,
+    }
+}
+
+// Whether the field with which s begins is there: whole, or so much of it that it is malformed whatever follows, since
+// none has more than 8,193 bytes.
+pub(crate) fn is_there(s: &[u8]) -> bool {
+    if 8193 <= s.len() {
+        return true;
+    }
+    match fields::head(s) {
+        Heading::Tagged(_, _) => true,
+        Heading::Cut => false,
+    }
 }
 
 // The byte of the input at a place of the buffer, which begins with byte b.
@@ -33,4 +47,57 @@ pub(crate) fn place(b: u64, p: usize) -> u64 {
         }
     }
     b
+}
+
+// What is not served goes to the front: so many bytes.
+fn moved(buf: &mut [u8], from: usize, to: usize) -> usize
+    requires { ⌜ (from ≤ to) × (to ≤ length (now buf)) ⌝ }
+    ensures { λ r. ⌜ r ≤ length (now (buf .exit)) ⌝ }
+{
+    let mut i = 0;
+    while i < to - from {
+        buf[i] = buf[from + i];
+        i += 1;
+    }
+    i
+}
+
+// What is not served, moved to the front, and what one read gives behind it.
+pub(crate) fn refilled(buf: &mut [u8], w: Window) -> Window
+    requires { ⌜ (w .from ≤ w .to) × (w .to ≤ length (now buf)) ⌝ }
+    ensures { λ r. ⌜ (r .from ≤ r .to) × (r .to ≤ length (now (buf .exit))) ⌝ }
+{
+    let base = place(w.base, w.from);
+    let left = moved(buf, w.from, w.to);
+    match streams::receive(&mut buf[left..], place(base, left)) {
+        Received::Bytes(n) => Window {
+            base,
+            from: 0,
+            to: left + n,
+            ended: false,
+            lost: false,
+        },
+        Received::End => Window {
+            base,
+            from: 0,
+            to: left,
+            ended: true,
+            lost: false,
+        },
+        Received::Failed => Window {
+            base,
+            from: 0,
+            to: left,
+            ended: false,
+            lost: true,
+        },
+    }
+}
+
+// The place behind the field at from, where there is input up to to.
+pub(crate) fn beyond(buf: &[u8], from: usize, to: usize) -> usize
+    requires { ⌜ (from < to) × (to ≤ length (now buf)) ⌝ }
+    ensures { λ r. ⌜ r ≤ to ⌝ }
+{
+    from + fields::end(&buf[from..to])
 }

@@ -6,27 +6,9 @@ mod on_vectors;
 mod searches;
 
 use case_files::Field;
-use libc::STDOUT_FILENO;
 use searches::Current;
 use searches::Told;
 ghost use Rattle.case_files.specs.CaseFiles.{Short};
-
-// ---- the text that is not yet written out
-
-fn flush(out: &[u8], at: usize) {
-    if at <= out.len() {
-        io::write_all(STDOUT_FILENO, &out[..at]);
-    }
-}
-
-// The place of the next line, once there is room for all that one field brings: at most a line of 511 numbers.
-fn room(out: &mut [u8], at: usize) -> usize {
-    if at < 50000 {
-        return at;
-    }
-    flush(out, at);
-    0
-}
 
 // ---- a field
 
@@ -100,38 +82,51 @@ fn served(out: &mut [u8], s: &[u8], progress: Progress, b: u64) -> Progress {
 
 // ---- the run
 
-// The buffer begins with byte b of the input; the next field is at from, and there is input up to to. While the input
-// goes on, a field is served only where it is surely whole. A proved loop has to end, and nothing says that an input
-// does: it counts its turns down.
+// While more may come a field is served only where it is there. Before the program waits for more it writes out all
+// that is told, so that whoever asks over a pipe gets the answer. A field brings at most 15,000 bytes of text. Where a
+// write or a read failed nothing more is told: no case is closed, since none has ended. A proved loop has to end, and
+// nothing says that an input does: it counts its turns down.
 fn run(buf: &mut [u8], out: &mut [u8]) {
     let mut progress = free(0, 0, false);
-    let mut b: u64 = 0;
-    let mut from: usize = 0;
-    let mut to: usize = 0;
-    let mut ended = false;
+    let mut sent = streams::nothing_sent();
+    let mut window = input::opened();
     let mut turns: u64 = 18446744073709551615;
     while 0 < turns {
         turns -= 1;
-        if !ended & (to - from < 8193) {
-            to = input::refilled(buf, from, to);
-            ended = to < buf.len();
-            b = input::place(b, from);
-            from = 0;
+        if progress.malformed {
+            break;
+        }
+        let from = window.from;
+        let to = window.to;
+        let waits = !window.ended & !input::is_there(&buf[from..to]);
+        if waits | (50000 <= progress.at) {
+            sent = streams::send(sent, out, progress.at);
+            progress.at = 0;
+            if sent.lost {
+                return;
+            }
+        }
+        if waits {
+            window = input::refilled(buf, window);
+            if window.lost {
+                return;
+            }
             continue;
         }
         if to <= from {
             break;
         }
-        if progress.malformed {
-            break;
-        }
-        progress.at = room(out, progress.at);
-        progress = served(out, &buf[from..to], progress, input::place(b, from));
-        from = input::beyond(buf, from, to);
+        progress = served(
+            out,
+            &buf[from..to],
+            progress,
+            input::place(window.base, from),
+        );
+        window.from = input::beyond(buf, from, to);
     }
     let current = progress.current;
     let at = searches::closed(out, progress.at, current);
-    flush(out, at);
+    streams::send(sent, out, at);
 }
 
 fn main() {

@@ -1,19 +1,19 @@
--- `search::main` meets its contract: what a job begins is a play that ends. Assumes nothing.
-use mathlib.Core.Path.{sym, ap, _∙_}
+-- `search::main` meets its contract: what was read is within the buffer. Assumes nothing.
+use mathlib.Core.Path.{subst}
 use borrow.Author.Needs.{needs}
-use Rattle.jobs.specs.Opening.{openedTold}
-use Rattle.play.proofs.Ending.{begun-playable}
+use Rattle.streams.specs.Streams.{Fills}
 use Rattle.search.proofs.main.Statement.{statement}
 use Rattle.search.proofs.main.Tie as tie
 
-tell-requires : tie.Need-tell-requires
-tell-requires c κs =
-    begun-playable _ _ _ (sym (c .before .before .before .begin .ensures) ∙ ap openedTold (c .before .c .given .1))
+run-requires : tie.Need-run-requires
+run-requires c κs =
+    let m = c .before .before in
+    let read = subst (Fills _) (m .n .given .1) (m .before .before .before .fill .ensures) in
+    search (needs, read)
 
 pub main-spec : {M : Type 1} → statement M
 main-spec =
     tie.close
     (tie.spec
-    (λ c. search needs) (λ c κs. search needs) (λ c. search needs) (λ c. search needs) (λ c κs. search needs)
-    (λ c. search needs) tell-requires (λ c. search needs) (λ c κs. search needs) (λ c κs. search needs)
-    (λ c. search needs) (λ c κs. search needs) (λ c. search needs) (λ c. search needs) (λ c. search needs))
+    (λ c. search needs) (λ c κs. search needs) (λ c. search needs) (λ c. search needs) run-requires
+    (λ c. search needs) (λ c. search needs) (λ c. search needs))

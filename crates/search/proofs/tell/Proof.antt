@@ -7,25 +7,27 @@ use Rattle.search.proofs.tell.Statement.{statement}
 use Rattle.search.proofs.tell.Tie as tie
 
 abbrev Inv-loop : tie.InvT-loop
-Inv-loop c played₀ played = Playable c played
+Inv-loop c played₀ sent₀ played sent = Playable c played
 
 abbrev μ-loop : tie.MeasureT-loop
-μ-loop c played₀ played = toTell c played
+μ-loop c played₀ sent₀ played sent = toTell c played
 
 loop-less : tie.Need-loop-less Inv-loop μ-loop
 loop-less c =
-    let l = c .before .before .before .before in
-    less-to-tell (l .before .args .c) 512 _ _ _ (l .loop .inv) (c .before .before .played .given .1)
-    (c .tell-some .ensures) (omega arith)
+    let m = c .before .before .before in
+    let l = m .before .before .before .before in
+    less-to-tell (l .before .before .args .c) 512 _ _ _ (l .loop .inv) (m .played .given .1)
+    (c .before .tell-some .ensures) (omega arith)
 
 loop-again : tie.Need-loop-again Inv-loop μ-loop
 loop-again c =
-    let l = c .before .before .before .before in
-    plays-on (l .before .args .c) 512 _ _ _ (l .loop .inv) (c .before .before .played .given .1) (c .tell-some .ensures)
+    let m = c .before .before .before in
+    let l = m .before .before .before .before in
+    plays-on (l .before .before .args .c) 512 _ _ _ (l .loop .inv) (m .played .given .1) (c .before .tell-some .ensures)
 
 pub tell-spec : {M : Type 1} → statement M
 tell-spec =
     tie.close
     (tie.spec
-    Inv-loop μ-loop (λ c. c .pre) (λ c. search needs) (λ c. search needs) (λ c. search needs)
-    (λ c κs. search needs) loop-less loop-again)
+    Inv-loop μ-loop (λ c κs. search needs) (λ c. c .before .pre) (λ c. search needs) (λ c. search needs)
+    (λ c. search needs) (λ c κs. search needs) loop-less loop-again (λ c. search needs))

@@ -1,22 +1,25 @@
--- `cases::input::refilled` meets its contract. Assumes nothing.
+-- `cases::input::refilled` meets its contract: a read gives no more than there is room for. Assumes nothing.
 use borrow.Author.Needs.{needs}
-use Prim.Native.Nat.{_≤_, _-_}
-use mathlib.Core.Path.{_≡_}
-use lib.ListN.{length}
+use mathlib.Core.Path.{subst}
+use Rattle.streams.specs.Streams.{Receives}
 use Rattle.cases.proofs.input.refilled.Statement.{statement}
 use Rattle.cases.proofs.input.refilled.Tie as tie
 
-abbrev Inv-loop : tie.InvT-loop
-Inv-loop buf₀ from to i₀ buf i = (i ≤ to - from) × (length buf ≡ length buf₀)
+add-t15 : tie.Need-add-t15
+add-t15 c =
+    let got = subst (Receives _) (c .before .n .given .1) (c .before .before .before .before .before .receive .ensures) in
+    search (needs, got)
 
-abbrev μ-loop : tie.MeasureT-loop
-μ-loop buf₀ from to i₀ buf i = (to - from) - i
+returns : tie.Need-returns
+returns c =
+    let got = subst (Receives _) (c .before .n .given .1) (c .before .before .before .before .before .receive .ensures) in
+    search (needs, got)
 
 pub refilled-spec : {M : Type 1} → statement M
 refilled-spec =
     tie.close
     (tie.spec
-    Inv-loop μ-loop (λ c. search needs) (λ c. search needs) (λ c. search needs) (λ c. search needs)
-    (λ c. search needs) (λ c. search needs) (λ c. search needs) (λ c. search needs) (λ c. search needs)
-    (λ c. search needs) (λ c. search needs) (λ c κs. search needs) (λ c. search needs) (λ c. search needs)
+    (λ c κs. search needs) (λ c κs. search needs) (λ c. search needs) (λ c. search needs) (λ c. search needs)
+    (λ c κs. search needs) (λ c κs. search needs) (λ c. search needs) add-t15 (λ c. search needs)
+    (λ c. search needs) (λ c. search needs) returns (λ c. search needs) (λ c. search needs) (λ c. search needs)
     (λ c. search needs))
