@@ -1,11 +1,11 @@
--- The bounds of the demands are reached (`bounds-reached`, `trials-reached`; specs/Reached.antt). Hager-Zhang's search
--- is worked out over the rules' text and carried to the machine (proofs/Along.antt), backtracking's over the machine
--- itself. Assumes nothing.
+-- The bounds of the demands are reached (`bounds-reached`, `trials-reached`; specs/Reached.antt), by computing one
+-- search of each kind: Hager-Zhang's by the rules' text, which the machine follows (proofs/Along.antt), backtracking's by
+-- the machine itself. Assumes nothing.
 use mathlib.Core.Path.{_≡_, refl, ap, _∙_}
 use mathlib.Core.Bool.{false, not}
-use mathlib.Core.List.{List, [], _∷_}
+use mathlib.Core.List.{[], _∷_}
 use lib.ListN.{length}
-use lib.Ieee.{Float, add, sub, mul, div, neg, le, lt, eq, ofBits, ofInt}
+use lib.Ieee.{add, sub, mul, div, neg, le, lt, eq, ofBits, ofInt}
 use Rattle.floats.specs.Arithmetic.{0ᶠ, 1ᶠ}
 use Rattle.refusals.proofs.Refusals.{Passed, and, all as none-left, value-given}
 use Rattle.runs.specs.Outcomes.{limit, refusal, ends}
@@ -23,7 +23,6 @@ use Rattle.hagerzhang_rules.specs.Rules.{Report, iterationsIn, decided, verdict
 use Rattle.hagerzhang_rules.proofs.UnderWay.{noted, under-way}
 use Rattle.hagerzhang.specs.Machine.{freshOf}
 use Rattle.demands.specs.Runs.{and-then}
-use Rattle.demands.specs.Demand3.{mostInIteration, mostInSearch}
 use Rattle.demands.specs.Reached.{f0, s0, down, up, bad, o, allButLast, all, trialOptions}
 use Rattle.demands.specs.Reached.{BoundsReached, TrialsReached}
 use Rattle.demands.proofs.Along.{tied, told-at, report-at, asked-by, asked-at}
@@ -41,13 +40,13 @@ abbrev search : Rest Report
 search = hagerZhang s
 
 record Computed : Type 0 where
-  few : length (noted (after search allButLast) (up 1ᶠ) (under-way [] search allButLast)) ≡ mostInIteration o
-  unfinished : length (under-way [] search (and-then allButLast down)) ≡ mostInIteration o
+  finished : length (noted (after search allButLast) (up 1ᶠ) (under-way [] search allButLast)) ≡ 9
+  unfinished : length (under-way [] search (and-then allButLast down)) ≡ 9
   spent : shown (respond (after search allButLast) (down .0) (down .1)) ≡ ends (refusal 6)
   still-asks : isOver (after search allButLast) ≡ false
   then-over : shown (respond (after search allButLast) (up 1ᶠ .0) (up 1ᶠ .1)) ≡ ends (limit 0ᶠ)
-  iterations : iterationsIn (reported (after search all)) ≡ o .limit
-  evaluations : accepted answerFinite search all ≡ mostInSearch o
+  evaluations : accepted answerFinite search all ≡ 21
+  iterations : iterationsIn (reported (after search all)) ≡ 2
   non-finite : notFinite answerFinite search (bad ∷ bad ∷ []) ≡ 1
 
 computed : Computed
@@ -55,13 +54,13 @@ unfolding under-way accepted after respond shown reported isOver hagerZhang askH
     judgeOf bestOver iteration afterS1 afterS4 further updating U3 between trial L2 S3 S2 narrowedOf updateOf
     add sub mul div neg le lt eq ofBits ofInt
 computed = record {
-  few = refl;
+  finished = refl;
   unfinished = refl;
   spent = refl;
   still-asks = refl;
   then-over = refl;
-  iterations = refl;
   evaluations = refl;
+  iterations = refl;
   non-finite = refl;
 }
 
@@ -70,14 +69,14 @@ unfolding le lt ofBits
 bounds-reached = record {
   t = freshOf s;
   given = value-given (startRows o f0 s0) (freshOf s) ok;
-  few-reached = ap length (asked-at o f0 s0 ok allButLast (up 1ᶠ)) ∙ computed .few;
+  few-reached = ap length (asked-at o f0 s0 ok allButLast (up 1ᶠ)) ∙ computed .finished;
   iteration-reached = ap length (asked-by o f0 s0 ok (and-then allButLast down)) ∙ computed .unfinished;
   budget-spent = told-at o f0 s0 ok allButLast down ∙ computed .spent;
   search-reached = refl;
   still-asks = over-at (tied o f0 s0 ok) allButLast ∙ computed .still-asks;
   then-over = told-at o f0 s0 ok allButLast (up 1ᶠ) ∙ computed .then-over;
-  iterations-reached = ap iterationsIn (report-at o f0 s0 ok all) ∙ computed .iterations;
   evaluations-reached = tallied-is (tied o f0 s0 ok) answerFinite all ∙ computed .evaluations;
+  iterations-reached = ap iterationsIn (report-at o f0 s0 ok all) ∙ computed .iterations;
   ever-reached = refl;
   largest = refl;
   none-larger = (refl, refl);
@@ -91,7 +90,7 @@ unfolding reached tallied answerBy triedOf oneMore add mul div neg le lt ofBits 
 trials-reached = record {
   t = trialsFresh (trialsSetup trialOptions f0 s0);
   given = refl;
-  trials-reached = refl;
+  search-reached = refl;
   still-asks = refl;
   then-over = refl;
   evaluations-reached = refl;

@@ -1,19 +1,19 @@
--- The bounds of the demands are reached: a search of each kind that `start` gave and that takes every answer that it
--- may. The equations are over the very bounds of the theorems. So a theorem with a larger bound breaks one of them, and
--- with a smaller one it is false. Examples: nobody has to believe them.
+-- The bounds of the demands are reached: of each kind a search that `start` gave and that takes every answer that it
+-- may. The equations are over the very bounds that the theorems cite. With a smaller bound a theorem is false; with a
+-- larger one an equation here is. These are examples, and nobody has to believe them.
 use Prim.Native.Nat.{ℕ}
 use mathlib.Core.Path.{_≡_}
-use mathlib.Core.Bool.{true, false, not}
+use mathlib.Core.Bool.{Bool, true, false, not}
 use mathlib.Core.List.{List, [], _∷_}
 use lib.ListN.{length}
 use lib.Ieee.{Float, binary64, ofBits, nan}
-use Rattle.floats.specs.Arithmetic.{0ᶠ, ½ᶠ, 1ᶠ, 2ᶠ}
-use Rattle.floats.specs.Numerals.{whole, quarters, minus}
+use Rattle.floats.specs.Arithmetic.{_⊗_, 0ᶠ, ½ᶠ, 1ᶠ, 2ᶠ}
+use Rattle.floats.specs.Numerals.{whole, minus}
 use Rattle.refusals.specs.Results.{value}
 use Rattle.runs.specs.Outcomes.{limit, refusal, ends}
 use Rattle.runs.specs.Asking.{Reply, reached, toldNext, tallied}
 use Rattle.conditions.specs.declared.Condition.the-variants.{Armijo}
-use Rattle.conditions.specs.Conditions as conditions
+use Rattle.conditions.specs.Conditions.{answerFinite}
 use Rattle.backtracking.specs.declared.Options.{Options as TrialOptions}
 use Rattle.backtracking.specs.declared.Turn.{Turn as TrialTurn}
 use Rattle.backtracking.specs.Machine.{startOf as trialsStart}
@@ -65,13 +65,13 @@ optionsOf B N = record {
   limit = N;
 }
 
--- B and N are 2, so that the factors of a bound count, and not its sum alone
+-- B and N are 2. At 1 a bound with other factors, as 2+4B, could be reached as well
 abbrev pub o : Options
 o = optionsOf 2 2
 
--- Every answer but the last: the start's three; then two iterations. Each asks at S1, S4 and L2. Downhill above L the
--- trial begins U3, U3's first answer goes on, and uphill its second ends it. S4 is asked, since S1's step is less than
--- EPS above Z (S2) and not less than EPS above A, which is 0 (S3).
+-- Every answer but the last: three of the start, then nine of each iteration. Its trials at S1, S4 and L2 are answered
+-- downhill above L and begin U3, whose first answer goes on, and whose second, uphill, ends it. S4 is asked, since S1's
+-- step is less than EPS above Z (S2), and not less than EPS above A, which is 0 (S3).
 abbrev pub allButLast : List Reply
 allButLast =
     (f0, s0) ∷ (2ᶠ, whole 9) ∷ down ∷
@@ -84,39 +84,43 @@ all = and-then allButLast (up 1ᶠ)
 pub record BoundsReached : Type 0 where
   pub t : Turn
   pub given : startOf o f0 s0 ≡ value t
-  -- "an iteration takes at most 3+3B answers": the last answer finishes one that took all of them (`few`); or it does
-  -- not end U3, and an iteration that is not finished has taken all (`iteration-bounded`)
+  -- "an iteration takes at most 3+3B answers": the last answer finishes one that took them all (`few`); or it does not
+  -- end U3, and an iteration that is not finished has taken them all (`iteration-bounded`)
   pub few-reached : length (askedAt (t .search) allButLast (up 1ᶠ)) ≡ mostInIteration o
   pub iteration-reached : length (askedBy (t .search) (and-then allButLast down)) ≡ mostInIteration o
   pub budget-spent : toldAt (t .search) allButLast down ≡ ends (refusal 6)
-  -- "any search ends within 3+N(3+3B)": with one answer fewer it still asks (`search-ends`)
+  -- "any search ends within 3+N(3+3B)": one answer before that it still asks (`search-ends`)
   pub search-reached : length all ≡ mostInSearch o
   pub still-asks : isOver (reachedBy (t .search) allButLast .stage) ≡ false
   pub then-over : toldAt (t .search) allButLast (up 1ᶠ) ≡ ends (limit 0ᶠ)
-  -- `iterations-bounded`, `evaluations-bounded`
-  pub iterations-reached : iterationsIn (report (reachedBy (t .search) all)) ≡ o .limit
+  -- `evaluations-bounded`, `iterations-bounded`
   pub evaluations-reached : finiteBy (t .search) all ≡ mostInSearch o
-  -- `always-bounded`: at the largest B and the largest N that a start takes
+  pub iterations-reached : iterationsIn (report (reachedBy (t .search) all)) ≡ o .limit
+  -- `always-bounded`: at the largest B and N that are in their ranges
   pub ever-reached : mostInSearch (optionsOf 1000 10000) ≡ mostEver
   pub largest : inRanges (optionsOf 1000 10000) ≡ true
   pub none-larger : (inRanges (optionsOf 1001 10000) ≡ false) × (inRanges (optionsOf 1000 10001) ≡ false)
   -- `non-finite-once`
   pub non-finite-reached : notFiniteBy (t .search) (bad ∷ bad ∷ []) ≡ 1
 
--- ---- backtracking: no cost meets the condition
+-- ---- backtracking: no trial meets the condition
 
 abbrev pub trialOptions : TrialOptions
 trialOptions = record { condition = Armijo ½ᶠ; rho = ½ᶠ; alpha = 1ᶠ; limit = 2 }
 
+abbrev pub isFinite : Float → Float → Bool
+isFinite f g = answerFinite (trialOptions .condition) f g
+
+abbrev pub twoTrials : List Reply
+twoTrials = down ∷ down ∷ []
+
 pub record TrialsReached : Type 0 where
   pub t : TrialTurn
   pub given : trialsStart trialOptions f0 s0 ≡ value t
-  -- it ends within 1 + N answers: with one fewer it still asks
-  pub trials-reached : length (down ∷ down ∷ down ∷ []) ≡ mostTrials trialOptions
-  pub still-asks : trialsOver (reached machine (t .search) (down ∷ down ∷ []) .stage) ≡ false
-  pub then-over : toldNext machine (t .search) (down ∷ down ∷ []) down ≡ ends (limit (quarters 1))
+  -- it ends within 1 + N answers: one answer before that it still asks (`search-ends`)
+  pub search-reached : length (and-then twoTrials down) ≡ mostTrials trialOptions
+  pub still-asks : trialsOver (reached machine (t .search) twoTrials .stage) ≡ false
+  pub then-over : toldNext machine (t .search) twoTrials down ≡ ends (limit (½ᶠ ⊗ ½ᶠ))
   -- `evaluations-bounded`, `non-finite-once`
-  pub evaluations-reached : let accepted = conditions.answerFinite (trialOptions .condition) in
-      tallied machine accepted (t .search) (down ∷ down ∷ down ∷ []) ≡ mostTrials trialOptions
-  pub non-finite-reached : let accepted = conditions.answerFinite (trialOptions .condition) in
-      tallied machine (λ f g. not (accepted f g)) (t .search) (bad ∷ bad ∷ []) ≡ 1
+  pub evaluations-reached : tallied machine isFinite (t .search) (and-then twoTrials down) ≡ mostTrials trialOptions
+  pub non-finite-reached : tallied machine (λ f g. not (isFinite f g)) (t .search) (bad ∷ bad ∷ []) ≡ 1
