@@ -1,11 +1,11 @@
 -- The bounds of the demands are reached (`bounds-reached`, `trials-reached`; specs/Reached.antt), by computing one
--- search of each kind: Hager-Zhang's by the rules' text, which the machine follows (proofs/Along.antt), backtracking's by
--- the machine itself. Assumes nothing.
+-- search of each kind: Hager-Zhang's by the rules' text, which the machine follows (proofs/Along.antt), and
+-- backtracking's by the machine itself. Assumes nothing.
 use mathlib.Core.Path.{_≡_, refl, ap, _∙_}
 use mathlib.Core.Bool.{false, not}
 use mathlib.Core.List.{[], _∷_}
 use lib.ListN.{length}
-use lib.Ieee.{add, sub, mul, div, neg, le, lt, eq, ofBits, ofInt}
+use lib.Ieee.{add, sub, mul, div, neg, le, lt, ofBits, ofInt}
 use Rattle.floats.specs.Arithmetic.{0ᶠ, 1ᶠ}
 use Rattle.refusals.proofs.Refusals.{Passed, and, all as none-left, value-given}
 use Rattle.runs.specs.Outcomes.{limit, refusal, ends}
@@ -46,13 +46,14 @@ record Computed : Type 0 where
   still-asks : isOver (after search allButLast) ≡ false
   then-over : shown (respond (after search allButLast) (up 1ᶠ .0) (up 1ᶠ .1)) ≡ ends (limit 0ᶠ)
   evaluations : accepted answerFinite search all ≡ 21
+  before : iterationsIn (reported (after search allButLast)) ≡ 1
   iterations : iterationsIn (reported (after search all)) ≡ 2
   non-finite : notFinite answerFinite search (bad ∷ bad ∷ []) ≡ 1
 
 computed : Computed
 unfolding under-way accepted after respond shown reported isOver hagerZhang askHigh askStart rounds verdict decided
     judgeOf bestOver iteration afterS1 afterS4 further updating U3 between trial L2 S3 S2 narrowedOf updateOf
-    add sub mul div neg le lt eq ofBits ofInt
+    add sub mul div neg le lt ofBits ofInt
 computed = record {
   finished = refl;
   unfinished = refl;
@@ -60,6 +61,7 @@ computed = record {
   still-asks = refl;
   then-over = refl;
   evaluations = refl;
+  before = refl;
   iterations = refl;
   non-finite = refl;
 }
@@ -76,6 +78,7 @@ bounds-reached = record {
   still-asks = over-at (tied o f0 s0 ok) allButLast ∙ computed .still-asks;
   then-over = told-at o f0 s0 ok allButLast (up 1ᶠ) ∙ computed .then-over;
   evaluations-reached = tallied-is (tied o f0 s0 ok) answerFinite all ∙ computed .evaluations;
+  iterations-before = rw (report-at o f0 s0 ok allButLast, computed .before);
   iterations-reached = ap iterationsIn (report-at o f0 s0 ok all) ∙ computed .iterations;
   ever-reached = refl;
   largest = refl;
@@ -86,7 +89,7 @@ bounds-reached = record {
 
 -- ---- backtracking
 pub trials-reached : TrialsReached
-unfolding reached tallied answerBy triedOf oneMore add mul div neg le lt ofBits ofInt
+unfolding reached tallied answerBy triedOf oneMore add mul neg le lt ofBits ofInt
 trials-reached = record {
   t = trialsFresh (trialsSetup trialOptions f0 s0);
   given = refl;

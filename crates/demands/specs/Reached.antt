@@ -1,7 +1,7 @@
 -- The bounds of the demands are reached: of each kind a search that `start` gave and that takes every answer that it
 -- may. The equations are over the very bounds that the theorems cite. With a smaller bound a theorem is false; with a
 -- larger one an equation here is. These are examples, and nobody has to believe them.
-use Prim.Native.Nat.{ℕ}
+use Prim.Native.Nat.{ℕ, _+_}
 use mathlib.Core.Path.{_≡_}
 use mathlib.Core.Bool.{Bool, true, false, not}
 use mathlib.Core.List.{List, [], _∷_}
@@ -71,7 +71,8 @@ o = optionsOf 2 2
 
 -- Every answer but the last: three of the start, then nine of each iteration. Its trials at S1, S4 and L2 are answered
 -- downhill above L and begin U3, whose first answer goes on, and whose second, uphill, ends it. S4 is asked, since S1's
--- step is less than EPS above Z (S2), and not less than EPS above A, which is 0 (S3).
+-- step is less than EPS above Z (S2), and not less than EPS above A, which is 0 (S3); and its secant(b, Z) has a value,
+-- since the slopes there differ.
 abbrev pub allButLast : List Reply
 allButLast =
     (f0, s0) ∷ (2ᶠ, whole 9) ∷ down ∷
@@ -93,8 +94,9 @@ pub record BoundsReached : Type 0 where
   pub search-reached : length all ≡ mostInSearch o
   pub still-asks : isOver (reachedBy (t .search) allButLast .stage) ≡ false
   pub then-over : toldAt (t .search) allButLast (up 1ᶠ) ≡ ends (limit 0ᶠ)
-  -- `evaluations-bounded`, `iterations-bounded`
+  -- `evaluations-bounded`; `iterations-bounded`, since the last answer finishes the N-th
   pub evaluations-reached : finiteBy (t .search) all ≡ mostInSearch o
+  pub iterations-before : iterationsIn (report (reachedBy (t .search) allButLast)) + 1 ≡ o .limit
   pub iterations-reached : iterationsIn (report (reachedBy (t .search) all)) ≡ o .limit
   -- `always-bounded`: at the largest B and N that are in their ranges
   pub ever-reached : mostInSearch (optionsOf 1000 10000) ≡ mostEver
