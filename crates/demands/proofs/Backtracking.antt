@@ -167,9 +167,9 @@ module _ (o : Options) (f0 s0 : Float) (ok : Passed (startRows o f0 s0)) where
         one-fewer _ _ _ (c .stage) (stands-at tied ys .fits .counts)
         ∙ ap (λ (n : ℕ). n - 1) (finite-counted tied ys);
     refusing-start-shut-out = λ k starts. never-refused (startRows o f0 s0) (backtracking s) ok _ (starts .stands-for);
-    search-ends = ends-in-time tied;
+    search-ends = λ ys many. ends-in-time tied ys (omega arith);
     evaluations-counted = finite-counted tied;
-    evaluations-bounded = finite-bounded tied;
+    evaluations-bounded = λ ys. let few = finite-bounded tied ys in omega arith;
     non-finite-once = not-finite-once tied;
   }
 

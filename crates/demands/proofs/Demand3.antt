@@ -2,7 +2,7 @@
 -- rules (hagerzhang_rules/proofs/Demand3.antt), which the machine tells, holds and counts. Assumes nothing.
 use mathlib.Core.Path.{_≡_, refl, sym, ap, _∙_, subst}
 use mathlib.Core.List.{List, _∷_}
-use native.Mathlib.Nat.{le-trans}
+use native.Mathlib.Omega.{arith}
 use lib.Ieee.{Float}
 use Rattle.refusals.specs.Results.{value}
 use Rattle.runs.specs.Outcomes.{Ending, stop, limit, refusal, Why, numbered}
@@ -59,10 +59,13 @@ module _ (o : Options) (f0 s0 : Float) (ok : Passed (startRows o f0 s0)) where
         rw (asked-at o f0 s0 ok ys y)
         (rules.each-iteration o f0 s0 ok ys y p q (sym (report-at o f0 s0 ok ys) ∙ e)
         (sym (report-next o f0 s0 ok ys y) ∙ e') n);
-    iteration-bounded = λ ys. rw (asked-by o f0 s0 ok ys) (rules.iteration-bounded o f0 s0 ok ys);
-    search-ends = ends-in-time (tied o f0 s0 ok);
+    iteration-bounded = λ ys.
+        let few = rules.iteration-bounded o f0 s0 ok ys in
+        rw (asked-by o f0 s0 ok ys) (omega arith);
+    search-ends = λ ys many. ends-in-time (tied o f0 s0 ok) ys (omega arith);
     evaluations-counted = finite-counted (tied o f0 s0 ok);
-    evaluations-bounded = λ ys. le-trans (finite-bounded (tied o f0 s0 ok) ys) (most-answers o f0 s0 ok);
+    evaluations-bounded = λ ys. let few = finite-bounded (tied o f0 s0 ok) ys in omega arith;
+    always-bounded = let most = most-answers o f0 s0 ok in omega arith;
     each-answer = λ ys y.
         rw (asked-at o f0 s0 ok ys y, report-at o f0 s0 ok ys, report-next o f0 s0 ok ys y)
         (rules.each-answer o f0 s0 ok ys y);

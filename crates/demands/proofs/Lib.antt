@@ -10,3 +10,4 @@ pub mod Trials
 pub mod EmptyPrograms
 pub mod Backtracking
 pub mod Determined
+pub mod Reached

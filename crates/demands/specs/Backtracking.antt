@@ -88,7 +88,10 @@ pub record EmptyShutOut (s : Setup) (x : Float) (b : Backtracking) (f g : Float)
   pub same-step : (x ⊗ s .options .rho ≡ x → ⊥) → told (r .outcome) ≡ asks x → ⊥
   pub untouched : r .search ≡ b → ⊥
 
--- ---- along any answers
+-- ---- along any answers. Demand 3's bound, the first trial and N later ones, is reached (specs/Reached.antt)
+
+abbrev pub mostTrials : Options → ℕ
+mostTrials o = 1 + o .limit
 
 abbrev pub machine : Machine Backtracking
 machine = record {
@@ -124,10 +127,10 @@ module _ (o : Options) (f0 s0 : Float) (t : Turn) where
     -- the empty program that refuses every start
     pub refusing-start-shut-out : (k : Refusal) → Starts o f0 s0 (NoSearch k) → ⊥
     -- demand 3: it ends within 1 + N answers
-    pub search-ends : (ys : List Reply) → 1 + o .limit ≤ length ys → isOver (reachedBy ys .stage) ≡ true
+    pub search-ends : (ys : List Reply) → mostTrials o ≤ length ys → isOver (reachedBy ys .stage) ≡ true
     -- "The reported evaluations equal the finite answers accepted": 1 + N at most, so that no counter stops
     pub evaluations-counted : (ys : List Reply) → reachedBy ys .evaluations .0 ≡ finiteBy ys
-    pub evaluations-bounded : (ys : List Reply) → finiteBy ys ≤ 1 + o .limit
+    pub evaluations-bounded : (ys : List Reply) → finiteBy ys ≤ mostTrials o
     -- an answer that is not finite is at most one
     pub non-finite-once : (ys : List Reply)
         → tallied machine (λ f g. not (answerFinite (o .condition) f g)) (t .search) ys ≤ 1

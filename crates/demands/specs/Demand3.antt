@@ -23,7 +23,20 @@ use Rattle.hagerzhang.specs.Machine.{startOf}
 use Rattle.hagerzhang.specs.Meaning.{report, isOver}
 use Rattle.demands.specs.Runs.{reachedBy, toldAt, and-then, finiteBy, notFiniteBy, askedBy, askedAt, finishedBy}
 
--- a search ended at its n-th iteration, with the best step x
+-- ---- the bounds; specs/Reached.antt has a search that reaches each
+
+-- "3+3B", and "3+N(3+3B)"
+abbrev pub mostInIteration : Options → ℕ
+mostInIteration o = 3 + 3 * o .budget
+
+abbrev pub mostInSearch : Options → ℕ
+mostInSearch o = 3 + o .limit * (3 + 3 * o .budget)
+
+-- the latter at the largest B and N
+abbrev pub mostEver : ℕ
+mostEver = 30030003
+
+-- ---- a search ended at its n-th iteration, with the best step x
 pub record AtLimit (n : ℕ) (x : Float) (held : Report) : Type 0 where
   pub p : Summary
   pub holds : held ≡ last p
@@ -64,13 +77,13 @@ module _ (o : Options) (f0 s0 : Float) (t : Turn) where
         → q .iterations ≡ p .iterations + 1
         → Whole s p (askedAt b ys y) q
     -- "an iteration takes at most 3+3B answers": also one that is not finished
-    pub iteration-bounded : (ys : List Reply) → length (askedBy b ys) ≤ 3 + 3 * o .budget
+    pub iteration-bounded : (ys : List Reply) → length (askedBy b ys) ≤ mostInIteration o
     -- "any search ends within 3+N(3+3B)"
-    pub search-ends : (ys : List Reply) → 3 + o .limit * (3 + 3 * o .budget) ≤ length ys
-        → isOver (reachedBy b ys .stage) ≡ true
+    pub search-ends : (ys : List Reply) → mostInSearch o ≤ length ys → isOver (reachedBy b ys .stage) ≡ true
     -- "The reported evaluations equal the finite answers accepted": no counter stops
     pub evaluations-counted : (ys : List Reply) → reachedBy b ys .evaluations .0 ≡ finiteBy b ys
-    pub evaluations-bounded : (ys : List Reply) → finiteBy b ys ≤ 30030003
+    pub evaluations-bounded : (ys : List Reply) → finiteBy b ys ≤ mostInSearch o
+    pub always-bounded : mostInSearch o ≤ mostEver
     -- 01 on the counts: each answer leaves the report as it was, or gives the first, or finishes an iteration, which is
     -- counted; so the iterations are those that the answers finished, N at most
     pub each-answer : (ys : List Reply) (y : Reply)
