@@ -16,7 +16,7 @@ use Rattle.hagerzhang_rules.specs.declared.Setup.{Setup}
 use Rattle.hagerzhang_rules.specs.Parameters.{setupOf}
 use Rattle.hagerzhang_rules.specs.Rules.{point, Summary, Report, last, iterationsIn}
 use Rattle.hagerzhang_rules.specs.Brackets.{premise, Ordered}
-use Rattle.hagerzhang_rules.specs.Iterations.{Whole, Brings}
+use Rattle.hagerzhang_rules.specs.Iterations.{mostInIteration, Whole, Brings}
 use Rattle.hagerzhang.specs.declared.state.Search.{Search}
 use Rattle.hagerzhang.specs.declared.state.Turn.{Turn}
 use Rattle.hagerzhang.specs.Machine.{startOf}
@@ -25,12 +25,9 @@ use Rattle.demands.specs.Runs.{reachedBy, toldAt, and-then, finiteBy, no
 
 -- ---- the bounds; specs/Reached.antt has a search that reaches each
 
--- "3+3B", and "3+N(3+3B)"
-abbrev pub mostInIteration : Options → ℕ
-mostInIteration o = 3 + 3 * o .budget
-
+-- "3+N(3+3B)"; "3+3B" is `mostInIteration` of hagerzhang_rules/specs/Iterations.antt
 abbrev pub mostInSearch : Options → ℕ
-mostInSearch o = 3 + o .limit * (3 + 3 * o .budget)
+mostInSearch o = 3 + o .limit * mostInIteration o
 
 -- the latter at the largest B and N
 abbrev pub mostEver : ℕ

@@ -21,11 +21,12 @@ use Rattle.backtracking.specs.Meaning.{isOver as trialsOver}
 use Rattle.hagerzhang_rules.specs.declared.Options.{Options}
 use Rattle.hagerzhang_rules.specs.Parameters.{inRanges}
 use Rattle.hagerzhang_rules.specs.Rules.{iterationsIn}
+use Rattle.hagerzhang_rules.specs.Iterations.{mostInIteration}
 use Rattle.hagerzhang.specs.declared.state.Turn.{Turn}
 use Rattle.hagerzhang.specs.Machine.{startOf}
 use Rattle.hagerzhang.specs.Meaning.{report, isOver}
 use Rattle.demands.specs.Runs.{reachedBy, toldAt, and-then, finiteBy, notFiniteBy, askedBy, askedAt}
-use Rattle.demands.specs.Demand3.{mostInIteration, mostInSearch, mostEver}
+use Rattle.demands.specs.Demand3.{mostInSearch, mostEver}
 use Rattle.demands.specs.Backtracking.{mostTrials, machine}
 
 -- ---- the answers. Cost 1 and slope -7 at step 0

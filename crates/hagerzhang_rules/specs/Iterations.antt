@@ -16,6 +16,7 @@ use Rattle.runs.specs.declared.Verdict.{Verdict}
 use Rattle.runs.specs.Asking.{Run, ask, end}
 use Rattle.hagerzhang_rules.specs.declared.Point.{Point}
 use Rattle.hagerzhang_rules.specs.declared.Bracket.{Bracket}
+use Rattle.hagerzhang_rules.specs.declared.Options.{Options}
 use Rattle.hagerzhang_rules.specs.declared.Setup.{Setup}
 use Rattle.hagerzhang_rules.specs.declared.Came.{Came}
 use Rattle.hagerzhang_rules.specs.declared.Came.the-variants.{To, On}
@@ -54,6 +55,10 @@ pub data Came-from (w : Bracket) (asked : List Point) (p : Point) : Type 0 where
   former-high : p ≡ w .b → Came-from w asked p
   asked-now : OneOf p asked → Came-from w asked p
 
+-- "an iteration takes at most 3+3B answers"
+abbrev pub mostInIteration : Options → ℕ
+mostInIteration o = 3 + 3 * o .budget
+
 -- what a finished iteration leaves
 pub record Whole (s : Setup) (p : Summary) (asked : List Point) (q : Summary) : Type 0 where
   -- its answers, and no others, lead 01's iteration on the former bracket to the new one
@@ -67,8 +72,8 @@ pub record Whole (s : Setup) (p : Summary) (asked : List Point) (q : Summary) : 
   -- "Each end is, bit for bit, a former end or a step asked in that iteration with its answer."
   pub low-from : Came-from (p .bracket) asked (q .bracket .a)
   pub high-from : Came-from (p .bracket) asked (q .bracket .b)
-  -- "an iteration takes at most 3+3B answers"
-  pub few : length asked ≤ 3 + 3 * s .options .budget
+  -- its answers are few
+  pub few : length asked ≤ mostInIteration (s .options)
 
 -- what one answer brings: the report as it was; the first, with the start; or an iteration finished, and counted
 pub data Brings (s : Setup) (asked : List Point) : Report → Report → Type 0 where
