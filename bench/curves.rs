@@ -2,7 +2,7 @@
 
 pub type Curve = [f64; 5];
 
-const TABLE: [[i8; 5]; 8] = [
+const TABLE: &[[i8; 5]] = &[
     [1, -2, 1, 0, 0],
     [9, -6, 1, 0, 0],
     [0, -1, 0, 0, 0],
@@ -15,7 +15,7 @@ const TABLE: [[i8; 5]; 8] = [
 
 /// The curve of the n-th search, from 0.
 pub fn curve(n: usize) -> Curve {
-    TABLE[n % 8].map(f64::from)
+    TABLE[n % TABLE.len()].map(f64::from)
 }
 
 pub fn value(c: &Curve, x: f64) -> f64 {

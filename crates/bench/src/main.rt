@@ -105,7 +105,7 @@ fn play(n: u32, from: Tally) -> Tally {
 }
 
 fn next(n: u32) -> u32 {
-    if n < 8 { n + 1 } else { 1 }
+    if n < curves::COUNT { n + 1 } else { 1 }
 }
 
 fn run(turns: u64) -> f64 {

@@ -5,8 +5,8 @@ use streams::Received;
 ghost use Prim.Native.Nat.{_≤_, _<_};
 ghost use lib.ListN.{length};
 
-// The part in memory: the buffer begins with byte `base` of the input, and holds it up to `to`; what is before `from` is
-// served. The input has ended, or a read has failed, or more may come.
+// The part in memory: the buffer begins with byte `base` of the input, and holds it up to `to`. What is before `from`
+// is served. The input has ended, or a read has failed, or more may come.
 pub(crate) struct Window {
     pub(crate) base: u64,
     pub(crate) from: usize,

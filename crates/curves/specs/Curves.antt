@@ -55,9 +55,12 @@ curveAt i = record {
   c4 = entryOf (i + 4);
 }
 
--- "Coefficients c0..c4 of eight curves, a fixed table": the curves have the numbers 1 to 8
+-- "Coefficients c0..c4 of eight curves, a fixed table"
+abbrev pub count : ℕ
+count = 8
+
 abbrev pub hasNumber : ℕ → Bool
-hasNumber n = leb 1 n && leb n 8
+hasNumber n = leb 1 n && leb n count
 
 -- the curve with the number n: each has five coefficients in the table, in the numbers' order
 abbrev pub numberedAt : ℕ → Curve

@@ -6,7 +6,10 @@ ghost use Prim.Native.Nat.{_<_};
 ghost use Rattle.curves.specs.Curves.{entryOf, curveAt, valueOf, slopeOf};
 ghost use Rattle.curves.specs.Told.{NumberedSaid};
 
-// c0 to c4 of the curves 1 to 8.
+// How many there are. Their numbers count from 1.
+pub const COUNT: u32 = 8;
+
+// c0 to c4 of each, one curve after the other.
 const TABLE: [i8; 40] = [
     1,
     -2,
@@ -85,14 +88,14 @@ fn curve_at(i: usize) -> Curve
     }
 }
 
-// The curve with a number from 1 to 8.
+// The curve with this number.
 pub fn numbered(n: u32) -> Known
     ensures { λ r. ⌜ NumberedSaid n r ⌝ }
 {
     if n < 1 {
         return Known::Unknown(Refusal::OutOfRange);
     }
-    if 8 < n {
+    if COUNT < n {
         return Known::Unknown(Refusal::OutOfRange);
     }
     Known::Found(curve_at((n as usize - 1) * 5))

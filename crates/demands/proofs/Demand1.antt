@@ -1,11 +1,11 @@
 -- Demand 1: every function that can refuse does so by its table, and leaves what 01 says (`demand1`). A result is
 -- defined as the first row that holds, so the tables are read off the definitions. Assumes nothing.
-use mathlib.Core.Path.{_≡_, refl, ap, _∙_}
+use mathlib.Core.Path.{_≡_, refl, sym, ap, _∙_}
 use mathlib.Core.List.{List}
 use Prim.Native.Nat.{ℕ}
 use Rattle.refusals.specs.Results.{value}
 use Rattle.refusals.specs.Refusals.{given, inOrder, Table, refusedBy}
-use Rattle.refusals.proofs.Refusals.{by-rows}
+use Rattle.refusals.proofs.Refusals.{by-rows, passed}
 use Rattle.vectors.specs.Vectors.{dotRows, pointRows}
 use Rattle.vectors.proofs.Untouched.{buffers-untouched}
 use Rattle.conditions.specs.Conditions.{conditionRows}
@@ -40,6 +40,7 @@ demand1 = record {
   };
   buffer = buffers-untouched;
   condition = λ C r said. record { exactly = ap refusedBy said ∙ by-rows (conditionRows C) _; ordered = refl };
+  condition-kept = λ C D said. sym (passed (conditionRows C) C D (sym said) .1);
   curve = λ n r said. record { exactly = ap refusedBy said ∙ by-rows (curveRows n) _; ordered = refl };
   start = λ o f0 s0 r said. record { exactly = ap refusedBy said ∙ by-rows (startRows o f0 s0) _; ordered = refl };
   job-read = λ bytes r said fs j holds means. said ∙ job-read bytes fs j holds means;

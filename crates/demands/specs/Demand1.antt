@@ -24,6 +24,7 @@ use Rattle.vectors.specs.Told.{dotTold, DotSaid, pointTold, PointSaid}
 use Rattle.conditions.specs.declared.Condition.{Condition}
 use Rattle.conditions.specs.declared.Checked.{Checked}
 use Rattle.conditions.specs.Conditions.{conditionRows}
+use Rattle.conditions.specs.declared.Checked.the-variants.{Fit}
 use Rattle.conditions.specs.Told.{checkedTold, CheckedSaid}
 use Rattle.curves.specs.declared.Curve.{Curve}
 use Rattle.curves.specs.declared.Known.{Known}
@@ -119,8 +120,11 @@ pub record Demand1 : Type 0 where
       → PointSaid x0 alpha d held r now → Table (refusedBy (pointTold r now)) (pointRows x0 alpha d (length held))
   pub buffer : (x0 : List Float) (alpha : Float) (d held : List Float) (r : PointResult) (now : List Float) (n : ℕ)
       → PointSaid x0 alpha d held r now → pointTold r now ≡ refused n → now ≡ held
-  -- 2 and 3 of a condition, 3 of a curve's number
+  -- 2 and 3 of a condition
   pub condition : (C : Condition) (r : Checked) → CheckedSaid C r → Table (refusedBy (checkedTold r)) (conditionRows C)
+  -- a condition that is not refused is handed on as it came
+  pub condition-kept : (C D : Condition) → CheckedSaid C (Fit D) → D ≡ C
+  -- 3 of a curve's number
   pub curve : (n : ℕ) (r : Known) → NumberedSaid n r → Table (refusedBy (curveTold r)) (curveRows n)
   -- 2, 3, 4 of a start, with no search
   pub start : (o : Options) (f0 s0 : Float) (r : Started) → StartSaid o f0 s0 r

@@ -4,8 +4,8 @@ use hagerzhang::Started;
 use hagerzhang::Turn;
 use hagerzhang_decisions::parameters;
 use hagerzhang_rules::Options;
-use libc::STDOUT_FILENO;
 use runs::Outcome;
+use streams::Sent;
 
 // ---- the plant
 
@@ -41,60 +41,59 @@ fn options() -> Options {
     o
 }
 
-fn print(text: &[u8], n: usize) {
-    if n <= text.len() {
-        io::write_all(STDOUT_FILENO, &text[..n]);
-    }
-}
-
-// The line of what the search says, with its evaluations and finished iterations.
-fn print_turn(t: Turn) {
+// The line of what the search says, with its evaluations and finished iterations. `sent` goes from line to line: behind
+// a write that failed nothing more is written.
+fn print_turn(t: Turn, sent: Sent) -> Sent {
     let s = t.search;
     let outcome = t.outcome;
     let kept = hagerzhang::held(s);
     let mut line = [0u8; 80];
     let n = lines::outcome(&mut line, 0, outcome, s.evaluations, kept.iterations());
-    print(&line, n);
+    streams::send(sent, &line, n)
 }
 
 // The model answers each step that is asked, until the search ends. It ends by itself; a loop has to say so too, and
 // counts its turns down.
-fn answer_all(p: Plant, first: Turn) {
+fn answer_all(p: Plant, first: Turn, before: Sent) -> Sent {
     let mut t = first;
+    let mut sent = before;
     let mut turns: u32 = 4294967295;
     while 0 < turns {
         turns -= 1;
-        print_turn(t);
+        sent = print_turn(t, sent);
         let s = t.search;
         let outcome = t.outcome;
         let Outcome::Ask(x) = outcome else {
-            return;
+            return sent;
         };
         t = hagerzhang::answer(s, power(p, x), slope(p, x));
     }
+    sent
 }
 
 // A start may be refused too: then there is no search, and the number says why.
-fn optimise(p: Plant) {
+fn optimise(p: Plant, sent: Sent) -> Sent {
     match hagerzhang::start(options(), power(p, 0.0), slope(p, 0.0)) {
-        Started::Began(first) => answer_all(p, first),
+        Started::Began(first) => answer_all(p, first, sent),
         Started::NoSearch(refusal) => {
             let mut line = [0u8; 80];
             let n = lines::refused(&mut line, 0, refusal.number());
-            print(&line, n);
+            streams::send(sent, &line, n)
         }
     }
 }
 
 fn main() {
-    optimise(Plant {
+    let sound = Plant {
         chiller: 2.0,
         pump: 1.0,
         dead_above: 100.0,
-    });
-    optimise(Plant {
+    };
+    let dead = Plant {
         chiller: 2.0,
         pump: 1.0,
         dead_above: 0.75,
-    });
+    };
+    let sent = optimise(sound, streams::nothing_sent());
+    optimise(dead, sent);
 }

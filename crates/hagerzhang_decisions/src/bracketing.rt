@@ -3,6 +3,7 @@
 
 use hagerzhang_rules::Bracket;
 use hagerzhang_rules::Came;
+use hagerzhang_rules::EPS;
 use hagerzhang_rules::Further;
 use hagerzhang_rules::Point;
 ghost use mathlib.Core.Path.{_≡_};
@@ -57,11 +58,11 @@ pub fn secant(p: Point, q: Point) -> f64
     (p.x * q.g - q.x * p.g) / (q.g - p.g)
 }
 
-// 01, S2 and S3: "|c.x - Z.x| < EPS"; "EPS = 2^-52".
+// 01, S2 and S3: "|c.x - Z.x| < EPS".
 fn is_near(x: f64, y: f64) -> bool
     ensures { λ r. ⌜ r ≡ isNear x y ⌝ }
 {
-    numbers::abs(x - y) < 2.220446049250313e-16
+    numbers::abs(x - y) < EPS
 }
 
 // ---- 01, "Iteration on (a, b)": w is (a, b), c is c.x, and u is (A, Z)

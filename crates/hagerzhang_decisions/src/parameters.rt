@@ -1,5 +1,6 @@
 // 01's "Parameters" of Hager-Zhang: the defaults, and the tests of a start for refusals 2 and 3.
 
+use hagerzhang_rules::EPS;
 use hagerzhang_rules::Options;
 use hagerzhang_rules::Params;
 ghost use mathlib.Core.Path.{_≡_};
@@ -18,7 +19,7 @@ pub fn defaults() -> Options
             theta: 0.5,
             gamma: 0.66,
             eta: 0.01,
-            min: 2.220446049250313e-16,
+            min: EPS,
             max: 1e5,
             start: 1.0,
         },

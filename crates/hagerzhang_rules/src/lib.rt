@@ -3,6 +3,9 @@
 
 use runs::Verdict;
 
+// 01: "EPS = 2^-52". S2 and S3 go by it, and it is the default of min.
+pub const EPS: f64 = 2.220446049250313e-16;
+
 // Step, cost and slope.
 pub struct Point {
     pub x: f64,

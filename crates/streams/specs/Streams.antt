@@ -16,8 +16,8 @@ nothingSent = record { bytes = 0; lost = false }
 abbrev pub counted : ℕ → ℕ → ℕ
 counted bytes n = min (bytes + n) 18446744073709551615
 
--- n bytes were to be written, and `done` of them were taken before a write failed: a loss, where they are fewer. After a
--- loss nothing is written.
+-- n bytes were to be written, and `done` of them were taken before a write failed: a loss, where they are fewer. After
+-- a loss nothing is written.
 abbrev pub sentOf : Sent → ℕ → ℕ → Sent
 sentOf sent n done = cond (sent .lost) sent (record { bytes = counted (sent .bytes) done; lost = ltb done n })
 

@@ -15,17 +15,20 @@ abbrev μ-loop : tie.MeasureT-loop
 
 add-n : tie.Need-add-n Inv-loop μ-loop
 add-n c =
-    let got = subst (Receives _) (c .before .k .given .1) (c .before .before .before .before .before .receive .ensures) in
+    let m = c .before in
+    let got = subst (Receives _) (m .k .given .1) (m .before .before .before .before .receive .ensures) in
     search (needs, got)
 
 loop-less : tie.Need-loop-less Inv-loop μ-loop
 loop-less c =
-    let got = subst (Receives _) (c .before .k .given .1) (c .before .before .before .before .before .receive .ensures) in
+    let m = c .before in
+    let got = subst (Receives _) (m .k .given .1) (m .before .before .before .before .receive .ensures) in
     search (needs, got)
 
 loop-again : tie.Need-loop-again Inv-loop μ-loop
 loop-again c =
-    let got = subst (Receives _) (c .before .k .given .1) (c .before .before .before .before .before .receive .ensures) in
+    let m = c .before in
+    let got = subst (Receives _) (m .k .given .1) (m .before .before .before .before .receive .ensures) in
     search (needs, got)
 
 pub fill-spec : {M : Type 1} → statement M

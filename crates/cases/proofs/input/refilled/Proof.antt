@@ -7,12 +7,14 @@ use Rattle.cases.proofs.input.refilled.Tie as tie
 
 add-t15 : tie.Need-add-t15
 add-t15 c =
-    let got = subst (Receives _) (c .before .n .given .1) (c .before .before .before .before .before .receive .ensures) in
+    let m = c .before in
+    let got = subst (Receives _) (m .n .given .1) (m .before .before .before .before .receive .ensures) in
     search (needs, got)
 
 returns : tie.Need-returns
 returns c =
-    let got = subst (Receives _) (c .before .n .given .1) (c .before .before .before .before .before .receive .ensures) in
+    let m = c .before in
+    let got = subst (Receives _) (m .n .given .1) (m .before .before .before .before .receive .ensures) in
     search (needs, got)
 
 pub refilled-spec : {M : Type 1} → statement M
