@@ -83,7 +83,7 @@ fn served(out: &mut [u8], s: &[u8], progress: Progress, b: u64) -> Progress {
 // ---- the run
 
 // While more may come a field is served only where it is there. Before the program waits for more it writes out all
-// that is told, so that whoever asks over a pipe gets the answer. A field brings at most 15,000 bytes of text. Where a
+// that is told, so that whoever asks over a pipe gets the answer. Each field finds room for its lines. Where a
 // write or a read failed nothing more is told: no case is closed, since none has ended. A proved loop has to end, and
 // nothing says that an input does: it counts its turns down.
 fn run(buf: &mut [u8], out: &mut [u8]) {
