@@ -7,7 +7,8 @@ The front and bin/ are copied into a project of three small programs in a tempor
 that keeps rt's files and prints rt's lines. There proofs fail, builds are broken off and rt is absent. A few jobs run
 through the project's own front, with the real rt and programs. Ends with status 1 at the first check that fails.
 """
-from programs import ROOT, ready
+# first, since it says where Python is too old for the rest
+from programs import ROOT, ready, started
 
 import os
 import shutil
@@ -622,7 +623,4 @@ def main():
 
 
 if __name__ == "__main__":
-    try:
-        main()
-    except KeyboardInterrupt:
-        sys.exit("front: broken off")
+    started("front", main)

@@ -19,3 +19,20 @@ def ready(path):
     if subprocess.run([os.path.join(ROOT, "bin", "build"), "--program", path]).returncode != 0:
         sys.exit(1)
     return path
+
+
+def started(name, main):
+    """Runs a test. An interrupt from the keyboard and a program that cannot be started get one line in place of a
+    traceback; where nobody reads what is printed, nothing is said."""
+    try:
+        main()
+        sys.stdout.flush()
+    except KeyboardInterrupt:
+        print("%s: broken off" % name, file=sys.stderr)
+        sys.exit(130)
+    except BrokenPipeError:
+        # what is still to be printed has to go somewhere
+        os.dup2(os.open(os.devnull, os.O_WRONLY), sys.stdout.fileno())
+        sys.exit(1)
+    except OSError as error:
+        sys.exit("%s: %s%s" % (name, error.filename + ": " if error.filename else "", error.strerror))
