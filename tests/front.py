@@ -57,8 +57,10 @@ for crate in $plan; do
         count=$((count + 1))
     else
         : >"target/log/$crate.say"
+        mkdir "$TMPDIR/prover-$crate" || exit 2
         sh -c 'echo $$ >"$1/prover"; while [ -e "$1/wait" ] && [ ! -e "$1/go" ]; do sleep 0.05; done' sh "$fake" &
         wait
+        rmdir "$TMPDIR/prover-$crate"
         if [ -e "$fake/fail/$crate" ]; then
             sed "s|ROOT|$PWD|" "$fake/fail/$crate" | tee "target/log/$crate.out"
             echo "rt: $crate NOT PROVED (exit 1, 2 s)"
@@ -177,8 +179,8 @@ class Project:
         write(os.path.join(self.fake, "program"), PROGRAM, 0o755)
         self.tools = os.path.join(folder, "tools")
         os.makedirs(self.tools)
-        for tool in ("awk basename cat cp dirname env find grep head kill ls mkdir mkfifo od readlink rm rmdir sed sh"
-                     " sleep tail tee tr uname").split():
+        for tool in ("awk basename cat chmod cp dirname find grep head ls mkdir mktemp od readlink rm rmdir sed sh sleep"
+                     " tail tee tr uname").split():
             os.symlink(shutil.which(tool), os.path.join(self.tools, tool))
 
     def at(self, *parts):
