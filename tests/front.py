@@ -179,8 +179,8 @@ class Project:
         write(os.path.join(self.fake, "program"), PROGRAM, 0o755)
         self.tools = os.path.join(folder, "tools")
         os.makedirs(self.tools)
-        for tool in ("awk basename cat chmod cp dirname find grep head ls mkdir mktemp od readlink rm rmdir sed sh sleep"
-                     " tail tee tr uname").split():
+        for tool in ("awk basename cat chmod cp dirname find grep head ls mkdir mktemp od readlink rm rmdir sed sh"
+                     " sleep tail tee tr uname").split():
             os.symlink(shutil.which(tool), os.path.join(self.tools, tool))
 
     def at(self, *parts):
@@ -191,20 +191,31 @@ class Project:
         kept = {k: v for k, v in os.environ.items() if not k.startswith(("RATTLE", "RT_", "ALTUGMESH"))}
         return dict(kept, PATH=path, TMPDIR=self.tmp, CDPATH=self.folder)
 
-    def start(self, *command, rt=True, cwd=None, **more):
-        for name in ("stdin", "stdout", "stderr"):
-            more.setdefault(name, subprocess.PIPE)
-        return subprocess.Popen(command, cwd=cwd or self.other, env=self.environment(rt), universal_newlines=True,
-                                **more)
+    def start(self, *command, rt=True, cwd=None, nobody=False):
+        def before():
+            # what starts this test in the background has it ignore an interrupt, which a shell could not change
+            for number in (signal.SIGINT, signal.SIGQUIT, signal.SIGHUP):
+                signal.signal(number, signal.SIG_DFL)
+            if nobody and os.getuid() == 0:
+                os.setgroups([])
+                os.setgid(NOBODY)
+                os.setuid(NOBODY)
+
+        pipe = subprocess.PIPE
+        return subprocess.Popen(command, cwd=cwd or self.other, env=self.environment(rt), preexec_fn=before,
+                                stdin=pipe, stdout=pipe, stderr=pipe, universal_newlines=True)
+
+    def rest(self, started, data=None):
+        """The status of what was started, and the rest of its standard output and standard error."""
+        try:
+            out, err = started.communicate(data, timeout=LIMIT_SECONDS)
+        except subprocess.TimeoutExpired:
+            started.kill()
+            fail(repr(started.args), "no end within %d seconds" % LIMIT_SECONDS)
+        return started.returncode, out, err
 
     def run(self, *command, data="", **more):
-        p = self.start(*command, **more)
-        try:
-            out, err = p.communicate(data, timeout=LIMIT_SECONDS)
-        except subprocess.TimeoutExpired:
-            p.kill()
-            fail(" ".join(command), "no end within %d seconds" % LIMIT_SECONDS)
-        return p.returncode, out, err
+        return self.rest(self.start(*command, **more), data)
 
     def expect(self, name, command, wanted, **more):
         """Runs a command; wanted are its status, standard output and standard error."""
@@ -267,8 +278,8 @@ def as_it_goes(p):
     line = b.stderr.readline()
     check("progress while it goes", (line, b.poll()) == (said("proving base, 1 crate left"), None), repr(line))
     write(os.path.join(p.fake, "go"), "")
-    out, err = b.communicate(timeout=LIMIT_SECONDS)
-    check("the rest of it", (b.returncode, out, err) == (0, "", said("proving cases, 0 crates left")), repr(err))
+    got = p.rest(b)
+    check("the rest of it", got == (0, "", said("proving cases, 0 crates left")), repr(got))
 
 
 def failed_proof(p):
@@ -360,31 +371,24 @@ def without_rt(p):
 
 
 def unwritable(p):
-    """As another user where root runs this, since root writes anywhere."""
-    more = {"preexec_fn": as_nobody} if os.getuid() == 0 else {}
+    """As nobody where root runs this, since root writes anywhere."""
     folders = [p.root, p.at("target"), p.at("target", "log"), p.at("target", "stamp")]
     why = "the project's folder %s cannot be written" % p.root
     p.unbuilt()
     os.chmod(p.root, 0o555)
-    p.expect("unwritable, not built", p.front(), (1, "", said("search is not built, and " + why)), **more)
-    p.expect("unwritable, prove", p.front("prove"), (1, "", said("nothing was proved: " + why)), **more)
+    p.expect("unwritable, not built", p.front(), (1, "", said("search is not built, and " + why)), nobody=True)
+    p.expect("unwritable, prove", p.front("prove"), (1, "", said("nothing was proved: " + why)), nobody=True)
     os.chmod(p.root, 0o755)
     p.run(*p.build("search"))
     for folder in folders:
         os.chmod(folder, 0o555)
-    p.expect("unwritable, built", p.front(), (0, "run\nsample\n", ""), **more)
+    p.expect("unwritable, built", p.front(), (0, "run\nsample\n", ""), nobody=True)
     future = time.time() + 10
     os.utime(p.at("crates", "mid", "src", "lib.rt"), (future, future))
     wanted = said("crates/mid/src/lib.rt changed since search was built, and " + why)
-    p.expect("unwritable, changed", p.front(), (1, "", wanted), **more)
+    p.expect("unwritable, changed", p.front(), (1, "", wanted), nobody=True)
     for folder in folders:
         os.chmod(folder, 0o755)
-
-
-def as_nobody():
-    os.setgroups([])
-    os.setgid(NOBODY)
-    os.setuid(NOBODY)
 
 
 def broken_off(p):
@@ -400,9 +404,8 @@ def broken_off(p):
             with open(os.path.join(p.fake, "prover")) as f:
                 prover = int(f.read())
             b.send_signal(number)
-            out, err = b.communicate(timeout=LIMIT_SECONDS)
-            wanted = (128 + number, "", said("the build was broken off"))
-            check(name, (b.returncode, out, err) == wanted, repr((b.returncode, out, err)))
+            got = p.rest(b)
+            check(name, got == (128 + number, "", said("the build was broken off")), repr(got))
             check(name + ": no prover is left", gone(prover))
             shutil.rmtree(os.path.join(p.fake, "only"), ignore_errors=True)
             p.tidy(name)
@@ -411,8 +414,8 @@ def broken_off(p):
 def one_at_a_time(p):
     p.unbuilt()
     at_once = [p.start(*p.build("search")) for _ in range(4)]
-    results = [b.communicate(timeout=LIMIT_SECONDS) + (b.returncode,) for b in at_once]
-    check("four builds at once", [r[2] for r in results] == [0] * 4, repr(results))
+    results = [p.rest(b) for b in at_once]
+    check("four builds at once", [r[0] for r in results] == [0] * 4, repr(results))
     check("one rt at a time", p.calls() == ["check search"] * 4, repr(p.calls()))
     for left in ("999999999", None):
         p.unbuilt()
@@ -429,8 +432,8 @@ def one_at_a_time(p):
     line = b.stderr.readline()
     check("a lock that is held", line == said("another build is under way, by process %d" % os.getpid()), line)
     shutil.rmtree(p.at("target", "building"))
-    out, err = b.communicate(timeout=LIMIT_SECONDS)
-    check("a lock that is given back", (b.returncode, out, err) == (0, "", ""), repr(err))
+    got = p.rest(b)
+    check("a lock that is given back", got == (0, "", ""), repr(got))
 
 
 def other_programs(p):
@@ -497,8 +500,7 @@ def inputs(p):
     p.expect("no file", p.front("search", "no file"), (1, "", said("there is no file no file")))
     p.expect("a folder", p.front("cases", "."), (1, "", said(". is a folder, not a file")))
     write(os.path.join(p.other, "secret"), "hello\n", 0)
-    more = {"preexec_fn": as_nobody} if os.getuid() == 0 else {}
-    p.expect("unreadable", p.front("search", "secret"), (1, "", said("the file secret cannot be read")), **more)
+    p.expect("unreadable", p.front("search", "secret"), (1, "", said("the file secret cannot be read")), nobody=True)
     why = said("standard input is closed")
     p.expect("input closed", ("sh", "-c", 'exec "$1" search - <&-', "sh") + p.front(), (1, "", why))
     p.expect("input closed, a file", ("sh", "-c", 'exec "$1" search "my job" <&-', "sh") + p.front(), hello)
@@ -545,9 +547,9 @@ def dialogue(p):
         got.append((b.stderr if line == "talk" else b.stdout).readline())
         if line == "talk":
             got.append(b.stdout.readline())
-    rest = b.communicate(timeout=LIMIT_SECONDS)
+    rest = p.rest(b)
     wanted = ["ready\n", "run\n", "<one>\n", "<two>\n"]
-    check("dialogue", (got, rest, b.returncode) == (wanted, ("", ""), 0), repr((got, rest, b.returncode)))
+    check("dialogue", (got, rest) == (wanted, (0, "", "")), repr((got, rest)))
 
 
 def ended(p):
@@ -559,11 +561,11 @@ def ended(p):
         b.stdout.readline()
         program = int(b.stdout.readline())
         b.send_signal(number)
-        out, err = b.communicate(timeout=LIMIT_SECONDS)
+        status, _, err = p.rest(b)
         name = "ended by " + number.name
         wanted = said("search was ended by the signal TERM, and may not have said all")
         # a shell may say in a word of its own that it ended
-        check(name, b.returncode == 128 + number and err.endswith(wanted), repr((b.returncode, err)))
+        check(name, status == 128 + number and err.endswith(wanted), repr((status, err)))
         check(name + ": no program is left", gone(program))
         p.tidy(name)
 
