@@ -282,6 +282,27 @@ def as_it_goes(p):
     check("the rest of it", got == (0, "", said("proving cases, 0 crates left")), repr(got))
 
 
+def unheard(p):
+    """Where nobody reads standard error, all goes on."""
+    for closed in ("2>&-", "2>/dev/full"):
+        p.unbuilt()
+        command = ("sh", "-c", 'exec "$@" ' + closed, "sh")
+        p.expect("build, " + closed, command + p.build("search"), (0, "", ""))
+        p.expect("refused, " + closed, command + p.front("nosuch"), (1, "", ""))
+    for name, command, data, status in (("build", p.build("cases"), "", 0), ("refused", p.front("nosuch"), "", 1),
+                                        ("lost", p.front("search", "-"), "full\n", 1),
+                                        ("status 3", p.front("search", "-"), "status 3\n", 1)):
+        b = p.start(*command)
+        b.stderr.close()
+        if data:
+            b.stdin.write(data)
+        b.stdin.close()
+        b.stdout.read()
+        check("nobody reads standard error: " + name, b.wait(LIMIT_SECONDS) == status, str(b.returncode))
+    check("it was built", os.path.exists(p.at("target", "bin", "cases")))
+    p.tidy("unheard")
+
+
 def failed_proof(p):
     def explained(name, command, *lines):
         """Compares what is said behind the lines on progress."""
@@ -619,7 +640,7 @@ def main():
         # another user has to come through it
         os.chmod(folder, 0o755)
         p = Project(os.path.realpath(folder))
-        for part in (first_build, as_it_goes, failed_proof, wrong_words, without_rt, unwritable, broken_off,
+        for part in (first_build, as_it_goes, unheard, failed_proof, wrong_words, without_rt, unwritable, broken_off,
                      one_at_a_time, other_programs, links, inputs, endings, dialogue, ended, versions):
             part(p)
         real(folder)
