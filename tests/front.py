@@ -438,7 +438,8 @@ def one_at_a_time(p):
     results = [p.rest(b) for b in at_once]
     check("four builds at once", [r[0] for r in results] == [0] * 4, repr(results))
     check("one rt at a time", p.calls() == ["check search"] * 4, repr(p.calls()))
-    for left in ("999999999", None):
+    # one that was left behind is taken away: its process is gone or something else, or it never had one
+    for left in ("999999999", str(os.getpid()), None):
         p.unbuilt()
         os.makedirs(p.at("target", "building"))
         if left:
@@ -446,15 +447,21 @@ def one_at_a_time(p):
         got = p.run(*p.build("cases"))
         check("a lock that was left behind", got[0] == 0, repr(got))
         p.tidy("a lock that was left behind")
+    write(p.at("target", "building"), "")
+    p.expect("no lock", p.build("cases"), (1, "", said(p.at("target", "building") + " cannot be made")))
+    os.remove(p.at("target", "building"))
     # one that is held is waited for
+    write(os.path.join(p.other, "bin", "build"), "#!/bin/sh\nread -r line\n", 0o755)
+    holder = p.start(os.path.join(p.other, "bin", "build"))
     os.makedirs(p.at("target", "building"))
-    write(p.at("target", "building", str(os.getpid())), "")
+    write(p.at("target", "building", str(holder.pid)), "")
     b = p.start(*p.build("cases"))
     line = b.stderr.readline()
-    check("a lock that is held", line == said("another build is under way, by process %d" % os.getpid()), line)
-    shutil.rmtree(p.at("target", "building"))
+    check("a lock that is held", line == said("another build is under way, by process %d" % holder.pid), line)
+    p.rest(holder)
     got = p.rest(b)
-    check("a lock that is given back", got == (0, "", ""), repr(got))
+    check("a lock whose holder ended", got == (0, "", ""), repr(got))
+    p.tidy("a lock whose holder ended")
 
 
 def other_programs(p):
