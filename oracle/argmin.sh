@@ -18,13 +18,15 @@ argmin_missing() {
 argmin_into() { # BUILD
     if command -v sha256sum >/dev/null 2>&1; then sums=sha256sum; else sums="shasum -a 256"; fi
     mkdir -p "$1/argmin/src/solver/linesearch/condition" || failed "no folder $1"
-    while read -r _ file; do
-        cp "$argmin/$file" "$1/argmin/$file" || failed "$argmin/$file cannot be copied"
-    done <"$root/oracle/SHA256SUMS"
     # the copies are checked, since the copies are compiled
-    (cd "$1/argmin" && $sums -c "$root/oracle/SHA256SUMS") >"$1/log" 2>&1 ||
-        { cat "$1/log" >&2; failed "$argmin is not argmin 0.11.0's source by oracle/SHA256SUMS"; }
-    cp -R "$1/argmin/src" "$1/src" && cp -R "$root/oracle/src/." "$1/src" || failed "the sources cannot be copied"
+    while read -r sum file; do
+        cp "$argmin/$file" "$1/argmin/$file" 2>/dev/null || failed "there is no $argmin/$file, or it cannot be read"
+        [ "$($sums <"$1/argmin/$file")" = "$sum  -" ] ||
+            failed "$argmin/$file is not argmin 0.11.0's, by oracle/SHA256SUMS"
+    done <"$root/oracle/SHA256SUMS"
+    if ! cp -R "$1/argmin/src" "$1/src" || ! cp -R "$root/oracle/src/." "$1/src"; then
+        failed "the sources cannot be copied"
+    fi
 }
 
 # Compiles the file FILE of BUILD/src to PROGRAM.

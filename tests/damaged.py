@@ -3,6 +3,7 @@
 
 usage: damaged.py cases|search PROGRAM [--quick]
 
+PROGRAM is built first where it is this project's bin/NAME or target/bin/NAME; any other one is taken as it is.
 Quick, it tries four other values of each byte instead of all 255, and fewer edits.
 
 Each input must be answered within the time limit, with exit status 0 and output whose every line is of the known kinds.
@@ -10,6 +11,9 @@ It is also compared with what the independent models say must be printed: for ca
 model_jobs.py, which is stopped after some hundred steps. Prints how many inputs there were, and ends with status 1 at
 the first that is not answered so.
 """
+# first, since it says where Python is too old for the rest
+from programs import ready, started
+
 import functools
 import itertools
 import re
@@ -193,8 +197,18 @@ def main(kind, program, quick):
         kind, ", ".join("%s %d" % c for c in j.counts.items()), sum(j.counts.values()), j.compared, j.slowest))
 
 
-if __name__ == "__main__":
+def begin():
+    usage = "usage: damaged.py cases|search PROGRAM [--quick]"
     given = [a for a in sys.argv[1:] if a != "--quick"]
-    if len(given) != 2 or given[0] not in ("cases", "search"):
-        sys.exit(__doc__)
-    main(*given, "--quick" in sys.argv)
+    if len(given) != 2:
+        sys.exit(usage)
+    kind, program = given
+    if kind not in ("cases", "search"):
+        sys.exit("damaged: there is no kind '%s'; %s" % (kind, usage))
+    if program.startswith("-"):
+        sys.exit("damaged: there is no option '%s'; %s" % (program, usage))
+    main(kind, ready(program), "--quick" in sys.argv)
+
+
+if __name__ == "__main__":
+    started("damaged", begin)
