@@ -16,7 +16,7 @@ LIMIT_SECONDS = 60
 
 
 def parts(path):
-    """The page's indented and fenced blocks and its lists of quoted lines, in their order, each a kind and its lines."""
+    """The page's indented and fenced blocks and its lists of quoted lines, in order, each a kind and its lines."""
     with open(os.path.join(ROOT, path), encoding="utf-8") as f:
         lines = f.read().split("\n")
     found, i = [], 0
