@@ -2,6 +2,9 @@
 import os
 import sys
 
+# fcntl has this name from Python 3.10 on
+F_SETPIPE_SZ = 1031
+
 
 class Wrong(Exception):
     """A program did something else than it must. The text says what."""
