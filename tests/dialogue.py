@@ -1,12 +1,16 @@
 #!/usr/bin/env python3
-"""Talks with `cases` over two pipes, as a plant would: reads what is asked, answers it, and goes on until the search ends.
+"""Talks with `cases` over two pipes, as a plant would: reads what is asked, answers it, until the search ends.
 
 usage: dialogue.py [CASES]
 
-The program is bin/cases where none is given. Each field must be answered within a time limit while the input stays open,
-with the lines that the model has for it; half a field by nothing, and what came before it at once. The steps that the
-plant answers are those that the program writes. Ends with status 1 at the first line that is otherwise or does not come.
+The program is bin/cases where none is given. Each field must be answered within a time limit while the input stays
+open, with the lines that the model has for it; half a field by nothing, and what came before it at once. The steps that
+the plant answers are those that the program writes. Ends with status 1 at the first line that is otherwise or does not
+come.
 """
+# first, since it says where Python is too old for the rest
+from harness import Wrong, command, options, programs
+
 import os
 import select
 import subprocess
@@ -16,12 +20,10 @@ import time
 
 from case_file import answer, backtracks, dot, field, hager_zhang, params, point
 from exact import NAN, ONE, TWO, ZERO, F, Random
-from harness import Wrong, command, options
 from make_examples import fan, plant
 from model_backtracking import ARMIJO, GOLDSTEIN, STRONG, WOLFE
 from model_cases import ANSWER, DOT, POINT, case_lines, search_of
 from model_lines import line
-from programs import ready
 
 LIMIT_SECONDS = 30
 # how long nothing must come where nothing may
@@ -197,7 +199,7 @@ def main(given):
     rest, _, _ = options(given, {}) or ([None] * 2, None, None)
     if len(rest) > 1:
         sys.exit("usage: dialogue.py [CASES]")
-    program = ready(rest[0] if rest else "bin/cases")
+    program, = programs(rest, "cases")
     with tempfile.TemporaryFile() as errors, Dialogue(program, errors) as d:
         vectors(d)
         endings = talk(d)
@@ -220,4 +222,4 @@ def main(given):
 
 
 if __name__ == "__main__":
-    command(main)
+    command("dialogue", main)

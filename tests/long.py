@@ -14,6 +14,9 @@ The programs are bin/search and bin/cases where none are given. What must be wri
 
 Ends with status 1 at the first output that is otherwise.
 """
+# first, since it says where Python is too old for the rest
+from harness import F_SETPIPE_SZ, Wrong, command, options, programs
+
 import array
 import fcntl
 import functools
@@ -30,7 +33,6 @@ import time
 
 from case_file import answer, backtracks, dot, hager_zhang, params, point
 from exact import MAX, NAN, ONE, ZERO, F, Random
-from harness import F_SETPIPE_SZ, Wrong, command, options
 from lists_hagerzhang import endings
 from make_jobs import job, stored
 from model_backtracking import ARMIJO
@@ -38,7 +40,6 @@ from model_cases import case_lines, expected, parsed
 from model_jobs import lines_of
 from model_lines import printed
 from native import over_native
-from programs import ready
 
 LIMIT_SECONDS = 120
 PAGE = 4096
@@ -244,9 +245,9 @@ def until(what, done):
 
 def run_with_stops(what, program, data, right):
     """The output is a pipe of one page. Whenever the program waits in a write, since something is in the pipe and there
-    is no room for more, it is stopped and goes on: the write then gives the number of bytes that it took so far, and the
-    rest has to be written by another. A page of 4,096 bytes is 1 more than a multiple of the length of an ASK line, so
-    writes end at every place of a line. Gives the number of stops."""
+    is no room for more, it is stopped and goes on: the write then gives the number of bytes that it took so far, and
+    the rest has to be written by another. A page of 4,096 bytes is 1 more than a multiple of the length of an ASK line,
+    so writes end at every place of a line. Gives the number of stops."""
     with tempfile.TemporaryFile() as f:
         f.write(data)
         f.seek(0)
@@ -286,27 +287,22 @@ def main(given):
     rest, _, named = options(given, {}, {"--all"}) or ([None], None, None)
     if len(rest) not in (0, 2):
         sys.exit("usage: long.py [SEARCH CASES] [--all]")
-    search, cases = [ready(path) for path in rest or ["bin/search", "bin/cases"]]
-    began = time.monotonic()
+    search, cases = programs(rest, "search", "cases")
     said = []
-
-    def done(text):
-        said.append(text)
-        print("long: %6.1f s: %s" % (time.monotonic() - began, text), flush=True)
-
     limits = [limit_job(*which) for which in LIMITS]
     for data, right in limits:
         run_file("a job to the limit", search, data, right)
-    done("%d jobs to the limit of 10,000, %d lines" % (len(limits), sum(text.count(b"\n") for _, text in limits)))
+    lines = sum(text.count(b"\n") for _, text in limits)
+    said.append("%d jobs to the limit of 10,000, %d lines" % (len(limits), lines))
 
-    done("cut by reads at %d places" % sum(cut_by_reads(name, field, cases) for name, field in cut_fields()))
+    said.append("cut by reads at %d places" % sum(cut_by_reads(name, field, cases) for name, field in cut_fields()))
     places = lambda field: list(range(len(field) + 1)) if "--all" in named else some_places(field)
-    done("cut by the end of a buffer at %d places" % sum(
+    said.append("cut by the end of a buffer at %d places" % sum(
         cut_by_windows(name, field, cases, places(field)) for name, field in cut_fields()))
 
-    many, many_right = many_fields(800000, 120000)
+    many, many_right = many_fields(600000, 200000)
     run_file("many fields", cases, many, many_right)
-    done("a case file with %d bytes and %d lines" % (len(many), many_right.count(b"\n")))
+    said.append("a case file with %d bytes and %d lines" % (len(many), many_right.count(b"\n")))
 
     jobs = stored()
     for name in "wolfe_every_field", "limit", "approximate", "9_longest_and_one", "9_bounds_cut", "9_empty":
@@ -316,12 +312,12 @@ def main(given):
     run_messages("a case file byte by byte", cases, single(mixed), mixed_right)
     run_and_read_bytes("read byte by byte", search, *limits[0])
     run_and_read_bytes("read byte by byte", cases, mixed, mixed_right)
-    done("7 inputs and 2 outputs byte by byte")
+    said.append("7 inputs and 2 outputs byte by byte")
 
     long_cases = mixed * 12
     stops = run_with_stops("stopped in its writes", search, *limits[1])
     stops += run_with_stops("stopped in its writes", cases, long_cases, expected(long_cases))
-    done("%d writes that took a part" % stops)
+    said.append("%d writes that took a part" % stops)
     print("long: " + "; ".join(said))
 
 
@@ -330,4 +326,4 @@ def single(data):
 
 
 if __name__ == "__main__":
-    command(main)
+    command("long", main)

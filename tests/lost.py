@@ -6,10 +6,13 @@ usage: lost.py [SEARCH CASES]
 The programs are bin/search and bin/cases where none are given. Each is run with outputs that fail at once or after some
 bytes, and with inputs that cannot be read or break off. Standard output must hold exactly the first N bytes of what
 must be written, standard error exactly the one line `LOST standard output after N bytes: TEXT` or
-`LOST standard input after N bytes: TEXT`, and the status is 0. Where nothing fails standard error is empty. What must be
-written comes from the models. What this machine does not let one try is said. Ends with status 1 at the first run that
-is otherwise.
+`LOST standard input after N bytes: TEXT`, and the status is 0. Where nothing fails standard error is empty. What must
+be written comes from the models. What this machine does not let one try is said. Ends with status 1 at the first run
+that is otherwise.
 """
+# first, since it says where Python is too old for the rest
+from harness import F_SETPIPE_SZ, Wrong, command, options, programs
+
 import fcntl
 import os
 import resource
@@ -21,13 +24,11 @@ import tempfile
 
 from case_file import answer, dot, hager_zhang, params, point
 from exact import NAN, ONE, F
-from harness import F_SETPIPE_SZ, Wrong, command, options
 from lists_hagerzhang import endings
 from make_jobs import job
 from model_cases import BACKTRACKING, HAGER_ZHANG, expected, parsed
 from model_lines import printed
 from native import over_native
-from programs import ready
 
 LIMIT_SECONDS = 60
 PAGE = 4096
@@ -293,22 +294,21 @@ def main(given):
     rest, _, _ = options(given, {}) or ([None], None, None)
     if len(rest) not in (0, 2):
         sys.exit("usage: lost.py [SEARCH CASES]")
-    programs = [ready(path) for path in rest or ["bin/search", "bin/cases"]]
-    both = whole, full, size_limits, small_disk, bad_outputs, pipes, no_error_stream, bad_inputs
+    both = programs(rest, "search", "cases")
+    trials = whole, full, size_limits, small_disk, bad_outputs, pipes, no_error_stream, bad_inputs
     skipped, runs = [], 0
     with tempfile.TemporaryDirectory(prefix="lost-") as folder:
-        for program, (data, text), own in zip(programs, (long_job(), long_cases()),
-                                              (search_broken_off, cases_broken_off)):
+        for program, (data, text), own in zip(both, (long_job(), long_cases()), (search_broken_off, cases_broken_off)):
             s = Subject(program, data, text, folder)
-            for trial in both + (own,):
+            for trial in trials + (own,):
                 word = trial(s)
                 if word and word not in skipped:
                     skipped.append(word)
             runs += s.runs
     for word in skipped:
         print("lost: not tried: " + word)
-    print("lost: %d runs of %s and %s, nothing was lost silently" % (runs, programs[0], programs[1]))
+    print("lost: %d runs of %s and %s, nothing was lost silently" % (runs, *both))
 
 
 if __name__ == "__main__":
-    command(main)
+    command("lost", main)

@@ -12,6 +12,9 @@ says which of them how many of the jobs would show.
 Prints how many jobs there were and how often each ending came. Ends with status 1 at the first job that is answered
 otherwise than the model says, and keeps that job in a file.
 """
+# first, since it says where Python is too old for the rest
+from harness import Wrong, command, options, programs
+
 import collections
 import concurrent.futures
 import itertools
@@ -20,13 +23,11 @@ import sys
 import tempfile
 
 from exact import MAX, NOT_FINITE, SIGN, TINY, ZERO, F, Random, flt
-from harness import Wrong, command, options
 from make_jobs import job
 from model_curves import COEFFICIENTS
 from model_jobs import lines_of
 from model_lines import printed
 from native import over_native
-from programs import ready
 
 COUNT, SEED = 2000, 1
 AT_A_TIME = 2
@@ -269,7 +270,8 @@ def main(given):
     rest, values, _ = options(given, {"--count": COUNT, "--seed": SEED}) or ([], None, None)
     if values is None or len(rest) > 1:
         sys.exit("usage: random_jobs.py [PROGRAM] [--count N] [--seed N]")
-    program, count, seed = ready(rest[0] if rest else "bin/search"), values["--count"], values["--seed"]
+    program, = programs(rest, "search")
+    count, seed = values["--count"], values["--seed"]
     endings, lines, beyond = collections.Counter(), 0, 0
     jobs, due = itertools.islice(Jobs(seed).jobs(), count), collections.deque()
     with concurrent.futures.ThreadPoolExecutor(AT_A_TIME) as pool:
@@ -292,4 +294,4 @@ def main(given):
 
 
 if __name__ == "__main__":
-    command(main)
+    command("random_jobs", main)
