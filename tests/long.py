@@ -264,9 +264,9 @@ def run_with_stops(what, program, data, right):
 
     try:
         while until(what, waits) != "ended":
-            p.send_signal(signal.SIGSTOP)
+            os.kill(p.pid, signal.SIGSTOP)
             until(what, lambda: state(p.pid) in "TZ")
-            p.send_signal(signal.SIGCONT)
+            os.kill(p.pid, signal.SIGCONT)
             out.append(os.read(r, room))
             stops += 1
         with open(r, "rb") as rest:
