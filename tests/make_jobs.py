@@ -41,7 +41,6 @@ def stored():
         "wolfe_every_field": whole,
         "approximate": job(6, F(10), F(100), F(-1), F(2)),
         "limit": job(8, ZERO, FOUR, n=1),
-        "limit_largest_counts": job(8, ZERO, FOUR, b=1000, n=10000),
         # more lines than the program plays at a time
         "limit_in_two_chunks": job(5, F(10), F(100), F(2), n=300),
         # 2: an answer, and each number of a job
@@ -69,6 +68,7 @@ def stored():
         "4_level": job(2, epsilon=F(1e308)),
         "4_epsilon_k": job(2, epsilon=MAX),
         "5": job(3),
+        "5_largest_counts": job(8, ZERO, FOUR, b=1000, n=10000),
         "6": job(8, F(0.6), F(0.9), b=1),
         "7": job(8, F(0.6), F(0.9)),
         # accepted at the ends of the ranges
