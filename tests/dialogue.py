@@ -212,11 +212,13 @@ def main(given):
         d.p.stdin.close()
         d.end(d.closing())
         said = d.cases, d.lines
-    with tempfile.TemporaryFile() as errors, Dialogue(program, errors) as d:
-        # a malformed field ends the dialogue while the input is open
-        d.say(start, answer(ONE, ONE))
-        d.send(field(0, b""))
-        d.end(d.closing() + ["MALFORMED at %d" % (len(start) + len(answer(ONE, ONE)))])
+    # a malformed field ends the dialogue while the input is open: a whole one, and heads that no field has, among them
+    # those of a start and an answer whose lengths have their bytes turned round
+    for malformed in field(0, b""), b"\x63\xff\xff", b"\x20\x60\x00", b"\x11\x10\x00", b"\x22\x20\x00":
+        with tempfile.TemporaryFile() as errors, Dialogue(program, errors) as d:
+            d.say(start, answer(ONE, ONE))
+            d.send(malformed)
+            d.end(d.closing() + ["MALFORMED at %d" % (len(start) + len(answer(ONE, ONE)))])
     print("dialogue: %d cases and %d lines in one run, each answered before the next; %s" % (
         said + (", ".join("%s %d" % e for e in sorted(endings.items())),)))
 

@@ -380,7 +380,7 @@ def without_rt(p):
     for changed in ("crates/base/src/lib.rt", "crates/mid/proofs/Proof.antt", "crates/mid/proofs", "crates.txt"):
         before = os.stat(p.at(changed))
         os.utime(p.at(changed), (future, future))
-        wanted = said(changed + " changed since search was built" + why)
+        wanted = said(changed + " is newer than the program search" + why)
         p.expect("no rt, changed " + changed, p.front(), (1, "", wanted), rt=False)
         os.utime(p.at(changed), (before.st_atime, before.st_mtime))
     # what it does not stand on is no source of it
@@ -406,7 +406,7 @@ def unwritable(p):
     p.expect("unwritable, built", p.front(), (0, "run\nsample\n", ""), nobody=True)
     future = time.time() + 10
     os.utime(p.at("crates", "mid", "src", "lib.rt"), (future, future))
-    wanted = said("crates/mid/src/lib.rt changed since search was built, and " + why)
+    wanted = said("crates/mid/src/lib.rt is newer than the program search, and " + why)
     p.expect("unwritable, changed", p.front(), (1, "", wanted), nobody=True)
     for folder in folders:
         os.chmod(folder, 0o755)

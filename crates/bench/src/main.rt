@@ -12,7 +12,6 @@ use hagerzhang_decisions::parameters;
 use hagerzhang_rules::Options;
 use hagerzhang_rules::Params;
 use hagerzhang_rules::Setup;
-use libc::STDOUT_FILENO;
 use runs::Evaluations;
 use runs::Outcome;
 
@@ -133,6 +132,8 @@ fn main() {
     } else {
         50000000
     };
-    io::print_hex(STDOUT_FILENO, numbers::bits_of(run(turns)), 16);
-    io::write_all(STDOUT_FILENO, b"\n");
+    let mut digits = [0u8; 16];
+    let n = io::hex(numbers::bits_of(run(turns)), 16, &mut digits);
+    let sent = streams::send(streams::nothing_sent(), &digits[..n], n);
+    streams::send(sent, b"\n", 1);
 }

@@ -5,10 +5,10 @@ use mathlib.Core.Bool.{Bool, true, false, cond, _&&_}
 use mathlib.Core.List.{List}
 use Prim.Native.Nat.{ℕ, _+_, _*_, _<_, _≤_}
 use native.Mathlib.Omega.{arith}
-use borrow.Author.Tests.{leb-true, eqb-true}
+use borrow.Author.Tests.{leb-true, leb-false, eqb-true}
 use lib.Dec.{eqb}
 use lib.ListN.{length, drop}
-use Rattle.floats.proofs.Branches.{and-first, and-second}
+use Rattle.floats.proofs.Branches.{by-cases₂, and-first, and-second}
 use Rattle.wire.specs.Wire.{byteAt, pairOf}
 use Rattle.fields.specs.declared.Heading.{Heading}
 use Rattle.fields.specs.declared.Heading.the-variants.{Tagged, Cut}
@@ -28,6 +28,7 @@ use Rattle.case_files.specs.CaseFiles.{
   dotField,
   pointField,
   taggedField,
+  mayHave,
   readBy,
   readOf,
   Short,
@@ -119,7 +120,7 @@ by-head Cut body searching = tt
 pub read-short : (s : List ℕ) (searching : Bool) → Short (readOf s searching)
 read-short s searching = by-head (headOf s) (bodyOf s) searching
 
--- ---- a body of more than 8,190 bytes is malformed, whatever its tag
+-- ---- a body of a size that its tag may not have is malformed: in 34 and 35 one of more than 8,190 bytes
 
 none-sound : (size : ℕ) (f : Field) → 8190 < size → Sound size f → f ≡ Malformed
 none-sound size StartHagerZhang h s = absurd (omega arith)
@@ -129,7 +130,22 @@ none-sound size (Dot n m) h s = absurd (omega arith)
 none-sound size (Point n m k) h s = absurd (omega arith)
 none-sound size Malformed h s = refl
 
-pub long-malformed : (tag : ℕ) (body : List ℕ) (searching : Bool) → 8190 < length body
-    → taggedField tag body searching ≡ Malformed
-long-malformed tag body searching h =
-    none-sound (length body) (taggedField tag body searching) h (tagged-sound tag body searching)
+not-both : (a b : Bool) → b ≡ false → (a && b) ≡ false
+not-both true b h = h
+not-both false b h = refl
+
+abbrev RuledOut : Field → Bool → Type 0
+RuledOut f may = may ≡ false → f ≡ Malformed
+
+pub ruled-out : (tag : ℕ) (body : List ℕ) (searching : Bool)
+    → RuledOut (taggedField tag body searching) (mayHave tag (length body))
+unfolding taggedField mayHave
+ruled-out tag body searching =
+    let size = length body in
+    by-cases₂ RuledOut (eqb tag 17) (λ e no. rw (not-both searching (eqb size 16) no))
+    (λ e. by-cases₂ RuledOut (eqb tag 32) (λ e no. rw no)
+    (λ e. by-cases₂ RuledOut (eqb tag 33) (λ e no. rw no)
+    (λ e. by-cases₂ RuledOut (eqb tag 34)
+    (λ e no. none-sound size _ (leb-false _ _ no) (dot-sound size _ _))
+    (λ e. by-cases₂ RuledOut (eqb tag 35)
+    (λ e no. none-sound size _ (leb-false _ _ no) (point-sound size _ _ _)) (λ e no. refl)))))

@@ -1,32 +1,31 @@
--- A field is read from its own bytes: 8,193 of them, as many as the longest field has, decide as the whole input does.
--- Assumes nothing.
-use mathlib.Core.Path.{_≡_, refl}
-use mathlib.Core.Bool.{Bool}
-use mathlib.Core.List.{List, _++_}
-use Prim.Native.Nat.{ℕ, _≤_}
-use native.Mathlib.Omega.{arith}
+-- The bytes that are there decide on a field as the whole input does: where the field is whole (`whole-decides`), and
+-- where its head alone rules it out (`head-decides`). Assumes nothing.
+use mathlib.Core.Path.{_≡_, refl, ap, _∙_}
+use mathlib.Core.Bool.{Bool, false}
+use mathlib.Core.List.{List, [], _∷_, _++_}
+use Prim.Native.Nat.{ℕ}
+use lib.Dec.{leb}
 use lib.ListN.{length}
+use Rattle.floats.proofs.Branches.{by-cases}
+use Rattle.wire.specs.Wire.{pairOf}
 use Rattle.fields.specs.declared.Heading.{Heading}
-use Rattle.fields.specs.declared.Heading.the-variants.{Tagged, Cut}
+use Rattle.fields.specs.declared.Heading.the-variants.{Tagged}
 use Rattle.fields.specs.Fields.{headOf, bodyOf}
-use Rattle.fields.proofs.Heads.{head-front, body-front, body-length, cut-longer}
+use Rattle.fields.proofs.Heads.{head-front, body-front, body-length}
 use Rattle.case_files.specs.declared.Field.the-variants.{Malformed}
-use Rattle.case_files.specs.CaseFiles.{readBy, readOf}
-use Rattle.case_files.proofs.Lengths.{long-malformed}
+use Rattle.case_files.specs.CaseFiles.{mayHave, readBy, readOf}
+use Rattle.case_files.proofs.Lengths.{ruled-out}
 
-module _ (s t : List ℕ) (searching : Bool) (enough : 8193 ≤ length s) where
-  -- a field that is cut has more bytes than a field may have, or is cut in the whole input too
-  cut-malformed : headOf s ≡ Cut → (h : Heading) → headOf (s ++ t) ≡ h
-      → readBy h (bodyOf (s ++ t)) searching ≡ Malformed
-  cut-malformed cut (Tagged tag n) e =
-      let more = cut-longer s t tag n cut e in
-      let size = body-length (s ++ t) tag n e in
-      long-malformed tag (bodyOf (s ++ t)) searching (omega arith)
-  cut-malformed cut Cut e = refl
+pub whole-decides : (s t : List ℕ) (searching : Bool) (tag n : ℕ) → headOf s ≡ Tagged tag n
+    → readOf (s ++ t) searching ≡ readOf s searching
+whole-decides s t searching tag n e = rw (body-front s tag n e t, head-front s tag n e t, e)
 
-  by-head : (h : Heading) → headOf s ≡ h → readOf (s ++ t) searching ≡ readBy h (bodyOf s) searching
-  by-head (Tagged tag n) e = rw (body-front s tag n e t, head-front s tag n e t)
-  by-head Cut e = cut-malformed e (headOf (s ++ t)) refl
-
-  pub window : readOf (s ++ t) searching ≡ readOf s searching
-  window = by-head (headOf s) refl
+pub head-decides : (tag high low : ℕ) (rest : List ℕ) (searching : Bool)
+    → mayHave tag (pairOf (high ∷ low ∷ [])) ≡ false → readOf (tag ∷ high ∷ low ∷ rest) searching ≡ Malformed
+unfolding headOf
+head-decides tag high low rest searching ruled =
+    let s = tag ∷ high ∷ low ∷ rest in
+    let n = pairOf (high ∷ low ∷ []) in
+    by-cases (λ (h : Heading). readBy h (bodyOf s) searching ≡ Malformed) (leb n (length rest))
+    (λ whole. ruled-out tag (bodyOf s) searching (ap (mayHave tag) (body-length s tag n (rw whole)) ∙ ruled))
+    (λ cut. refl)

@@ -1,7 +1,7 @@
 -- The fields of a case file, by docs/FORMATS.md, "A case file". `readOf` takes the bytes from where a field begins: all
 -- that are left, or at least as many as the longest well-formed field has.
 use Prim.Native.Nat.{ℕ, _+_, _*_, _≤_}
-use mathlib.Core.Bool.{Bool, cond, _&&_}
+use mathlib.Core.Bool.{Bool, false, cond, _&&_}
 use mathlib.Core.List.{List}
 use lib.Dec.{leb, eqb}
 use lib.ListN.{length, drop}
@@ -45,6 +45,15 @@ taggedField tag body searching =
     (cond (eqb tag 33) (cond (eqb size 53 && isCondition (byteAt body 0)) StartBacktracking Malformed)
     (cond (eqb tag 34) (dotField size (pairOf body) (pairOf (drop 2 body)))
     (cond (eqb tag 35) (pointField size (pairOf body) (pairOf (drop 2 body)) (pairOf (drop 4 body))) Malformed))))
+
+-- whether a field with this tag may have a body of this size; 34 and 35 have at most 14 + 8(511 + 511)
+unfoldable pub mayHave : ℕ → ℕ → Bool
+mayHave tag size =
+    cond (eqb tag 17) (eqb size 16)
+    (cond (eqb tag 32) (eqb size 96)
+    (cond (eqb tag 33) (eqb size 53)
+    (cond (eqb tag 34) (leb size 8190)
+    (cond (eqb tag 35) (leb size 8190) false))))
 
 -- malformed, whatever its tag: "a field that the end of the input cuts"
 abbrev pub readBy : Heading → List ℕ → Bool → Field

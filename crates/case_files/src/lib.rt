@@ -2,7 +2,7 @@
 
 use fields::Heading;
 ghost use mathlib.Core.Path.{_≡_};
-ghost use Rattle.case_files.specs.CaseFiles.{isCondition, dotField, pointField, taggedField, readOf};
+ghost use Rattle.case_files.specs.CaseFiles.{isCondition, dotField, pointField, taggedField, mayHave, readOf};
 
 // A field by its kind, with the lengths that its body names.
 pub enum Field {
@@ -93,6 +93,28 @@ fn tagged_field(tag: u8, body: &[u8], searching: bool) -> Field
         );
     }
     Field::Malformed
+}
+
+// Whether a field with this tag may have a body of this size. Where it may not, the field is malformed by its head.
+pub fn may_have(tag: u8, size: usize) -> bool
+    ensures { λ r. ⌜ r ≡ mayHave tag size ⌝ }
+{
+    if tag == 17 {
+        return size == 16;
+    }
+    if tag == 32 {
+        return size == 96;
+    }
+    if tag == 33 {
+        return size == 53;
+    }
+    if tag == 34 {
+        return size <= 8190;
+    }
+    if tag == 35 {
+        return size <= 8190;
+    }
+    false
 }
 
 // The field with which s begins; `searching` says whether answers may come.

@@ -1,6 +1,5 @@
 // The input, of which a part is in memory.
 
-use fields::Heading;
 use streams::Received;
 ghost use Prim.Native.Nat.{_≤_, _<_};
 ghost use lib.ListN.{length};
@@ -27,16 +26,16 @@ pub(crate) fn opened() -> Window
     }
 }
 
-// Whether the field with which s begins is there: whole, or so much of it that it is malformed whatever follows, since
-// none has more than 8,193 bytes.
-pub(crate) fn is_there(s: &[u8]) -> bool {
-    if 8193 <= s.len() {
+// Whether the field with which s begins is decided: it is whole, or malformed by its head, whatever follows.
+pub(crate) fn is_decided(s: &[u8]) -> bool {
+    if s.len() < 3 {
+        return false;
+    }
+    let size = wire::pair(&s[1..3]);
+    if !case_files::may_have(s[0], size) {
         return true;
     }
-    match fields::head(s) {
-        Heading::Tagged(_, _) => true,
-        Heading::Cut => false,
-    }
+    size <= s.len() - 3
 }
 
 // The byte of the input at a place of the buffer, which begins with byte b.

@@ -82,7 +82,7 @@ fn served(out: &mut [u8], s: &[u8], progress: Progress, b: u64) -> Progress {
 
 // ---- the run
 
-// While more may come a field is served only where it is there. Before the program waits for more it writes out all
+// While more may come a field is served only where it is decided. Before the program waits for more it writes out all
 // that is told, so that whoever asks over a pipe gets the answer. Each field finds room for its lines. Where a
 // write or a read failed nothing more is told: no case is closed, since none has ended. A proved loop has to end, and
 // nothing says that an input does: it counts its turns down.
@@ -98,7 +98,7 @@ fn run(buf: &mut [u8], out: &mut [u8]) {
         }
         let from = window.from;
         let to = window.to;
-        let waits = !window.ended & !input::is_there(&buf[from..to]);
+        let waits = !window.ended & !input::is_decided(&buf[from..to]);
         if waits | (50000 <= progress.at) {
             sent = streams::send(sent, out, progress.at);
             progress.at = 0;

@@ -1,11 +1,11 @@
 -- What the head of a field says, by the places of the bytes; and what is known of a field that is whole. Assumes
 -- nothing.
-use mathlib.Core.Path.{_≡_, refl, sym, ap, _∙_}
+use mathlib.Core.Path.{_≡_, refl, ap, _∙_}
 use mathlib.Core.Bool.{Bool, true, false, cond}
 use mathlib.Core.List.{List, [], _∷_, _++_}
 use Prim.Native.Nat.{ℕ, _+_, _-_, _*_, _≤_, _<_}
 use native.Mathlib.Omega.{arith}
-use borrow.Author.Tests.{le-leb, lt-leb, leb-true, leb-false}
+use borrow.Author.Tests.{le-leb, lt-leb, leb-true}
 use lib.Dec.{leb}
 use lib.ListN.{length, take, drop, length-append, length-drop}
 use lib.Seq.{length-take-le, take-append-le, drop-append-le}
@@ -50,10 +50,6 @@ pub record Opens (s : List ℕ) (tag n : ℕ) : Type 0 where
 
 not-cut : {A : Type 0} (tag n : ℕ) → Cut ≡ Tagged tag n → A
 not-cut tag n h = let z : _≡_ {A = ℕ} 0 1 = cc in absurd (omega arith)
-
-is-cut : (b : Bool) (k m : ℕ) → cond b (Tagged k m) Cut ≡ Cut → b ≡ false
-is-cut true k m h = not-cut k m (sym h)
-is-cut false k m h = refl
 
 module _ (tag n : ℕ) where
   is-whole : (b : Bool) (k m : ℕ) → cond b (Tagged k m) Cut ≡ Tagged tag n → (b ≡ true) × (k ≡ tag) × (m ≡ n)
@@ -107,15 +103,3 @@ module _ (s : List ℕ) (tag n : ℕ) (whole : headOf s ≡ Tagged tag n) where
       let three : 3 ≤ length s = omega arith in
       let long : n ≤ length (drop 3 s) = simp length-drop (omega arith) in
       rw (head-front t, whole, drop-append-le 3 s t three, take-append-le n (drop 3 s) t long)
-
--- a field that is cut, and whole with more bytes behind, is longer than the bytes were
-pub cut-longer : (s t : List ℕ) (tag n : ℕ) → headOf s ≡ Cut → headOf (s ++ t) ≡ Tagged tag n → length s < 3 + n
-unfolding headOf
-cut-longer [] t tag n cut whole = omega arith
-cut-longer (k ∷ []) t tag n cut whole = omega arith
-cut-longer (k ∷ high ∷ []) t tag n cut whole = omega arith
-cut-longer (k ∷ high ∷ low ∷ rest) t tag n cut whole =
-    let m = high * 256 + low in
-    let e = is-whole tag n (leb m (length (rest ++ t))) k m whole .2 in
-    let l = leb-false m (length rest) (is-cut (leb m (length rest)) k m cut) in
-    omega arith
