@@ -1,10 +1,11 @@
 #!/usr/bin/env python3
 """Feeds damaged input to a program: every prefix, every change of one byte and many random edits of valid files.
 
-usage: damaged.py cases|search PROGRAM [--quick]
+usage: damaged.py cases|search PROGRAM [--quick|--few]
 
 PROGRAM is built first where it is this project's bin/NAME or target/bin/NAME; any other one is taken as it is.
-Quick, it tries four other values of each byte instead of all 255, and fewer edits.
+Quick, it tries four other values of each byte instead of all 255, and fewer edits. Few, it tries every fifth of those;
+that is for an emulator, under which a start of the program costs more than its run.
 
 Each input must be answered within the time limit, with exit status 0 and output whose every line is of the known kinds.
 It is also compared with what the independent models say must be printed: for cases model_cases.py, for search (jobs)
@@ -90,8 +91,8 @@ def malformed():
 # ---- running
 
 class Judge:
-    def __init__(self, kind, program):
-        self.kind, self.program = kind, program
+    def __init__(self, kind, program, every):
+        self.kind, self.program, self.every = kind, program, every
         self.line = re.compile("(?:%s)\\Z" % (CASE_LINE if kind == "cases" else OUTCOME))
         self.lines_of = functools.lru_cache(maxsize=None)(case_lines)
         self.seen, self.counts, self.compared, self.slowest = set(), {}, 0, 0.0
@@ -129,6 +130,8 @@ class Judge:
         if data in self.seen:
             return
         self.seen.add(data)
+        if name not in ("whole", "malformed") and len(self.seen) % self.every:
+            return
         out = self.answer(data)
         text = out.decode("ascii", "replace")
         if text and not text.endswith("\n"):
@@ -167,8 +170,8 @@ def edited(r, data, other):
     return data
 
 
-def main(kind, program, quick):
-    r, j = Random(20260707), Judge(kind, program)
+def main(kind, program, quick, every):
+    r, j = Random(20260707), Judge(kind, program, every)
     files = cases() if kind == "cases" else jobs()
     long = b"".join(make_cases.listed()) if kind == "cases" else b""
     whole = b"".join(files) if kind == "cases" else b""
@@ -198,16 +201,17 @@ def main(kind, program, quick):
 
 
 def begin():
-    usage = "usage: damaged.py cases|search PROGRAM [--quick]"
-    given = [a for a in sys.argv[1:] if a != "--quick"]
-    if len(given) != 2:
+    usage = "usage: damaged.py cases|search PROGRAM [--quick|--few]"
+    modes = [a for a in sys.argv[1:] if a in ("--quick", "--few")]
+    given = [a for a in sys.argv[1:] if a not in modes]
+    if len(given) != 2 or len(modes) > 1:
         sys.exit(usage)
     kind, program = given
     if kind not in ("cases", "search"):
         sys.exit("damaged: there is no kind '%s'; %s" % (kind, usage))
     if program.startswith("-"):
         sys.exit("damaged: there is no option '%s'; %s" % (program, usage))
-    main(kind, ready(program), "--quick" in sys.argv)
+    main(kind, ready(program), bool(modes), 5 if "--few" in modes else 1)
 
 
 if __name__ == "__main__":
