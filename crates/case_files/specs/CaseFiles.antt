@@ -1,5 +1,5 @@
 -- The fields of a case file, by docs/FORMATS.md, "A case file". `readOf` takes the bytes from where a field begins: all
--- that are left, or at least as many as the longest well-formed field has.
+-- that are left, or so many that they decide on it (proofs/Window.antt).
 use Prim.Native.Nat.{ℕ, _+_, _*_, _≤_}
 use mathlib.Core.Bool.{Bool, false, cond, _&&_}
 use mathlib.Core.List.{List}

@@ -1,6 +1,7 @@
 // The input, of which a part is in memory.
 
 use streams::Received;
+ghost use mathlib.Core.Path.{_≡_};
 ghost use Prim.Native.Nat.{_≤_, _<_};
 ghost use lib.ListN.{length};
 
@@ -15,7 +16,7 @@ pub(crate) struct Window {
 }
 
 pub(crate) fn opened() -> Window
-    ensures { λ r. ⌜ (r .from ≤ r .to) × (r .to ≤ 0) ⌝ }
+    ensures { λ r. ⌜ (r .from ≡ 0) × (r .to ≡ 0) ⌝ }
 {
     Window {
         base: 0,

@@ -23,8 +23,8 @@ use Rattle.vectors.specs.Vectors.{dotRows, pointRows}
 use Rattle.vectors.specs.Told.{dotTold, DotSaid, pointTold, PointSaid}
 use Rattle.conditions.specs.declared.Condition.{Condition}
 use Rattle.conditions.specs.declared.Checked.{Checked}
-use Rattle.conditions.specs.Conditions.{conditionRows}
 use Rattle.conditions.specs.declared.Checked.the-variants.{Fit}
+use Rattle.conditions.specs.Conditions.{conditionRows}
 use Rattle.conditions.specs.Told.{checkedTold, CheckedSaid}
 use Rattle.curves.specs.declared.Curve.{Curve}
 use Rattle.curves.specs.declared.Known.{Known}

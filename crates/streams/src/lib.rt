@@ -81,18 +81,18 @@ fn write_first(page: &[u8], n: usize) -> usize
     done
 }
 
-// Writes the first n bytes of a page to standard output; all of it, where it has fewer. After a write that failed
-// nothing more is written.
+// Writes the first n bytes of a page to standard output. After a write that failed nothing more is written. A page that
+// has fewer is a loss too.
 pub fn send(sent: Sent, page: &[u8], n: usize) -> Sent
-    ensures { λ r. ⌜ Sends sent (min n (length (now (page .entry)))) r ⌝ }
+    ensures { λ r. ⌜ Sends sent n r ⌝ }
 {
     if sent.lost {
         return sent;
     }
-    let all = within(n, page);
-    let done = write_first(page, all);
+    let there = within(n, page);
+    let done = write_first(page, there);
     let bytes = counted_with(sent.bytes, done);
-    if done < all {
+    if done < n {
         say_lost(b"LOST standard output after ", bytes);
         return Sent { bytes, lost: true };
     }

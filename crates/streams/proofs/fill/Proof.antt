@@ -16,20 +16,17 @@ abbrev μ-loop : tie.MeasureT-loop
 add-n : tie.Need-add-n Inv-loop μ-loop
 add-n c =
     let m = c .before in
-    let got = subst (Receives _) (m .k .given .1) (m .before .before .before .before .receive .ensures) in
-    search (needs, got)
+    search (needs, subst (Receives _) (m .k .given .1) (m .before .before .before .before .receive .ensures))
 
 loop-less : tie.Need-loop-less Inv-loop μ-loop
 loop-less c =
     let m = c .before in
-    let got = subst (Receives _) (m .k .given .1) (m .before .before .before .before .receive .ensures) in
-    search (needs, got)
+    search (needs, subst (Receives _) (m .k .given .1) (m .before .before .before .before .receive .ensures))
 
 loop-again : tie.Need-loop-again Inv-loop μ-loop
 loop-again c =
     let m = c .before in
-    let got = subst (Receives _) (m .k .given .1) (m .before .before .before .before .receive .ensures) in
-    search (needs, got)
+    search (needs, subst (Receives _) (m .k .given .1) (m .before .before .before .before .receive .ensures))
 
 pub fill-spec : {M : Type 1} → statement M
 fill-spec =

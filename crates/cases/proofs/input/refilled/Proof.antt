@@ -8,14 +8,12 @@ use Rattle.cases.proofs.input.refilled.Tie as tie
 add-t15 : tie.Need-add-t15
 add-t15 c =
     let m = c .before in
-    let got = subst (Receives _) (m .n .given .1) (m .before .before .before .before .receive .ensures) in
-    search (needs, got)
+    search (needs, subst (Receives _) (m .n .given .1) (m .before .before .before .before .receive .ensures))
 
 returns : tie.Need-returns
 returns c =
     let m = c .before in
-    let got = subst (Receives _) (m .n .given .1) (m .before .before .before .before .receive .ensures) in
-    search (needs, got)
+    search (needs, subst (Receives _) (m .n .given .1) (m .before .before .before .before .receive .ensures))
 
 pub refilled-spec : {M : Type 1} → statement M
 refilled-spec =
