@@ -3,10 +3,13 @@
 use mathlib.Core.Path.{_≡_, refl, sym, ap, _∙_}
 use mathlib.Core.List.{List}
 use Prim.Native.Nat.{ℕ}
+use lib.ListN.{length}
 use Rattle.refusals.specs.Results.{value}
 use Rattle.refusals.specs.Refusals.{given, inOrder, Table, refusedBy}
 use Rattle.refusals.proofs.Refusals.{by-rows, passed}
 use Rattle.vectors.specs.Vectors.{dotRows, pointRows}
+use Rattle.vectors.specs.Told.{dotTold, pointTold}
+use Rattle.vectors.proofs.Positions.{dot-at, one-condition, point-at}
 use Rattle.vectors.proofs.Untouched.{buffers-untouched}
 use Rattle.conditions.specs.Conditions.{conditionRows}
 use Rattle.curves.specs.Curves.{curveRows}
@@ -38,6 +41,9 @@ demand1 = record {
     exactly = ap refusedBy (said .0) ∙ by-rows (pointRows x0 alpha d _) _;
     ordered = refl;
   };
+  dot-at = λ a b r said. dot-at a b (dotTold r) said;
+  point-at = λ x0 alpha d held r now said. point-at x0 alpha d (length held) (pointTold r now) (said .0);
+  dot-overflows = one-condition;
   buffer = buffers-untouched;
   condition = λ C r said. record { exactly = ap refusedBy said ∙ by-rows (conditionRows C) _; ordered = refl };
   condition-kept = λ C D said. sym (passed (conditionRows C) C D (sym said) .1);

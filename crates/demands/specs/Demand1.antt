@@ -1,7 +1,7 @@
 -- Demand 1: "Any input gets an answer. Non-finite numbers, bad parameters, a spent U3 budget, a stalled U3 and calls
 -- after the end are refused by number. Document 01 fixes each refusal, the state after it and any lent buffer." Every
 -- public function is total by its contract; here is what each refuses, and what a refusal leaves.
-use Prim.Native.Nat.{ℕ}
+use Prim.Native.Nat.{ℕ, _<_}
 use mathlib.Core.Path.{_≡_}
 use mathlib.Core.Bool.{true, false, cond, not, _&&_}
 use mathlib.Core.List.{List, [], _∷_}
@@ -15,12 +15,14 @@ use Rattle.refusals.specs.Results.{value, refused, Row}
 use Rattle.runs.specs.Outcomes.{Ending, refusal, Why, numbered, Told, asks, ends, told}
 use Rattle.runs.specs.Asking.{Reply}
 use Rattle.runs.specs.Counters.{oneMore}
-use Rattle.refusals.specs.Refusals.{given, Table, refusedBy}
+use Rattle.refusals.specs.Refusals.{given, TableBy, Table, refusedBy}
 use Rattle.runs.specs.Outcomes.{refusalIn}
 use Rattle.vectors.specs.declared.DotResult.{DotResult}
 use Rattle.vectors.specs.declared.PointResult.{PointResult}
+use Rattle.vectors.specs.Faults.{Fault, numberIn}
 use Rattle.vectors.specs.Vectors.{dotRows, pointRows}
 use Rattle.vectors.specs.Told.{dotTold, DotSaid, pointTold, PointSaid}
+use Rattle.vectors.specs.Positions.{DotAt, OneCondition, PointAt}
 use Rattle.conditions.specs.declared.Condition.{Condition}
 use Rattle.conditions.specs.declared.Checked.{Checked}
 use Rattle.conditions.specs.declared.Checked.the-variants.{Fit}
@@ -114,12 +116,19 @@ module _ (o : Options) (f0 s0 : Float) (t : Turn) where
 -- ---- every function that can refuse, but backtracking's (specs/Backtracking.antt): any result of its contract
 
 pub record Demand1 : Type 0 where
-  -- 1, 2, 4, and "buffers untouched"
-  pub dot : (a b : List Float) (r : DotResult) → DotSaid a b r → Table (refusedBy (dotTold r)) (dotRows a b)
+  -- 1, 2, 4, of a dot and of a point; their rows give the number and the index
+  pub dot : (a b : List Float) (r : DotResult) → DotSaid a b r → TableBy numberIn (refusedBy (dotTold r)) (dotRows a b)
   pub point : (x0 : List Float) (alpha : Float) (d held : List Float) (r : PointResult) (now : List Float)
-      → PointSaid x0 alpha d held r now → Table (refusedBy (pointTold r now)) (pointRows x0 alpha d (length held))
-  pub buffer : (x0 : List Float) (alpha : Float) (d held : List Float) (r : PointResult) (now : List Float) (n : ℕ)
-      → PointSaid x0 alpha d held r now → pointTold r now ≡ refused n → now ≡ held
+      → PointSaid x0 alpha d held r now
+      → TableBy numberIn (refusedBy (pointTold r now)) (pointRows x0 alpha d (length held))
+  -- 02, request 1: the index is that of "the first element at fault"
+  pub dot-at : (a b : List Float) (r : DotResult) → DotSaid a b r → DotAt a b (dotTold r)
+  pub point-at : (x0 : List Float) (alpha : Float) (d held : List Float) (r : PointResult) (now : List Float)
+      → PointSaid x0 alpha d held r now → PointAt x0 alpha d (pointTold r now)
+  pub dot-overflows : (ps : List Float) → 0 < length ps → OneCondition ps
+  -- "buffers untouched"
+  pub buffer : (x0 : List Float) (alpha : Float) (d held : List Float) (r : PointResult) (now : List Float) (k : Fault)
+      → PointSaid x0 alpha d held r now → pointTold r now ≡ refused k → now ≡ held
   -- 2 and 3 of a condition
   pub condition : (C : Condition) (r : Checked) → CheckedSaid C r → Table (refusedBy (checkedTold r)) (conditionRows C)
   -- a condition that is not refused is handed on as it came

@@ -3,10 +3,10 @@
 use Prim.Native.Nat.{ℕ}
 use mathlib.Core.Path.{_≡_}
 use mathlib.Core.Bool.{Bool, true, false, cond}
-use mathlib.Core.List.{List, [], _∷_}
+use mathlib.Core.List.{List, [], _∷_, map}
 use mathlib.Core.Option.{Option, none, some}
 use lib.Dec.{eqb}
-use Rattle.refusals.specs.Results.{Result, value, refused, Row}
+use Rattle.refusals.specs.Results.{ResultBy, value, refused, RowBy, Row}
 use Rattle.refusals.specs.declared.Refusal.{Refusal}
 use Rattle.refusals.specs.declared.Refusal.the-variants.{
   SuppliedNotFinite,
@@ -32,24 +32,28 @@ numberOf AlreadyOver = 8
 abbrev pub order : List ℕ
 order = 8 ∷ 1 ∷ 9 ∷ 2 ∷ 3 ∷ 4 ∷ 6 ∷ 5 ∷ 7 ∷ []
 
--- the first of the rows whose condition holds gives its number
-unfoldable pub given : List Row → Option ℕ
+-- the first of the rows whose condition holds gives what it tells
+unfoldable pub given : {K : Type 0} → List (RowBy K) → Option K
 given [] = none
 given (r ∷ rows) = cond (r .1) (some (r .0)) (given rows)
 
--- whether the rows come in that order; several may have one number
-unfoldable pub inOrder : List ℕ → List Row → Bool
+-- whether numbers come in this order; several may be the same
+unfoldable pub inOrder : List ℕ → List ℕ → Bool
 inOrder numbers [] = true
-inOrder [] (r ∷ rows) = false
-inOrder (n ∷ numbers) (r ∷ rows) = cond (eqb n (r .0)) (inOrder (n ∷ numbers) rows) (inOrder numbers (r ∷ rows))
+inOrder [] (m ∷ ms) = false
+inOrder (n ∷ numbers) (m ∷ ms) = cond (eqb n m) (inOrder (n ∷ numbers) ms) (inOrder numbers (m ∷ ms))
 
--- refused by a table, or not at all: what is given, if anything, is the first row's number that applies, and the rows
--- come in 01's order
-pub record Table (number : Option ℕ) (rows : List Row) : Type 0 where
-  pub exactly : number ≡ given rows
-  pub ordered : inOrder order rows ≡ true
+-- refused by a table, or not at all: what is given, if anything, is what the first row tells that applies, and the rows
+-- come in 01's order, by the numbers in what they tell
+pub record TableBy {K : Type 0} (numberIn : K → ℕ) (told : Option K) (rows : List (RowBy K)) : Type 0 where
+  pub exactly : told ≡ given rows
+  pub ordered : inOrder order (map (λ r. numberIn (r .0)) rows) ≡ true
 
--- the number of a result that is a refusal
-abbrev pub refusedBy : {A : Type 0} → Result A → Option ℕ
+-- of refusals that tell their number alone
+abbrev pub Table : Option ℕ → List Row → Type 0
+Table = TableBy (λ n. n)
+
+-- what a result that is a refusal tells
+abbrev pub refusedBy : {K A : Type 0} → ResultBy K A → Option K
 refusedBy (value a) = none
-refusedBy (refused n) = some n
+refusedBy (refused k) = some k

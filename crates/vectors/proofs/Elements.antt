@@ -1,7 +1,7 @@
 -- The definitions of specs/Vectors.antt one element at a time, as a loop takes them, for every length. Assumes nothing.
 use mathlib.Core.Path.{_≡_, refl, ap}
 use mathlib.Core.List.{List, [], _∷_, _++_, append-nil, zipWith, foldl}
-use mathlib.Core.Bool.{true, false, _&&_, true≢false}
+use mathlib.Core.Bool.{false, true≢false}
 use Prim.Native.Nat.{ℕ, zero, suc, _+_, _≤_, _<_}
 use native.Mathlib.Nat.{not-suc-le-zero, le-of-suc-le-suc}
 use native.Mathlib.Numerals.{add-one}
@@ -9,22 +9,13 @@ use native.Mathlib.Omega.{arith}
 use lib.ListN.{length, getD, drop, take, set, drop-of-length-le}
 use lib.Seq.{drop-cons, take-all}
 use lib.Ieee.{Float, nan}
-use lib.Ieee.Scale.{finite}
 use Rattle.floats.specs.Arithmetic.{_⊕_}
-use Rattle.vectors.specs.Vectors.{badLength, allFinite, leftSum}
+use Rattle.vectors.specs.Vectors.{badLength, leftSum}
 
 -- ---- a length that is taken
 pub not-empty : (n : ℕ) → badLength n ≡ false → 0 < n
 not-empty zero e = absurd (true≢false e)
 not-empty (suc n) e = omega arith
-
--- ---- a test of all elements from i on
-pub finite-step : (xs : List Float) (i : ℕ) → i < length xs
-    → allFinite (drop i xs) ≡ (finite (getD xs i nan) && allFinite (drop (i + 1) xs))
-finite-step xs i h = rw (drop-cons xs i nan, add-one)
-
-pub finite-end : (xs : List Float) (i : ℕ) → length xs ≤ i → allFinite (drop i xs) ≡ true
-finite-end xs i h = rw drop-of-length-le
 
 -- ---- a sum from the left: s, and then the elements from i on
 pub sum-start : (ps : List Float) → 0 < length ps → leftSum ps ≡ foldl _⊕_ (getD ps 0 nan) (drop 1 ps)

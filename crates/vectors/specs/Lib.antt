@@ -1,2 +1,4 @@
+pub mod Faults
 pub mod Vectors
 pub mod Told
+pub mod Positions

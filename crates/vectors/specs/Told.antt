@@ -1,5 +1,5 @@
--- What each case of an answer tells, in 01's numbers and values; and what the contracts of `dot` and `point` say
--- (`DotSaid`, `PointSaid`).
+-- What each case of an answer tells, in 01's numbers and values and 02's indices; and what the contracts of `dot` and
+-- `point` say (`DotSaid`, `PointSaid`).
 use mathlib.Core.Path.{_≡_}
 use Prim.Native.Nat.{ℕ}
 use mathlib.Core.List.{List}
@@ -11,26 +11,30 @@ use Rattle.vectors.specs.declared.DotResult.{DotResult}
 use Rattle.vectors.specs.declared.DotResult.the-variants.{Value, Refused}
 use Rattle.vectors.specs.declared.PointResult.{PointResult}
 use Rattle.vectors.specs.declared.PointResult.the-variants.{Written, Untouched}
-use Rattle.refusals.specs.Results.{Result, value, refused}
+use Rattle.refusals.specs.Results.{ResultBy, value, refused}
+use Rattle.vectors.specs.Faults.{Fault, alone, _at_, numberIn}
 use Rattle.vectors.specs.Vectors.{dotOf, pointOf, heldAfter}
 
-abbrev pub numberOf : Refusal → ℕ
-numberOf Lengths = 1
-numberOf SuppliedNotFinite = 2
-numberOf ResultNotFinite = 4
+abbrev pub faultOf : Refusal → Fault
+faultOf Lengths = alone 1
+faultOf (SuppliedNotFinite i) = 2 at i
+faultOf (ResultNotFinite i) = 4 at i
 
-abbrev pub dotTold : DotResult → Result Float
+abbrev pub numberOf : Refusal → ℕ
+numberOf k = numberIn (faultOf k)
+
+abbrev pub dotTold : DotResult → ResultBy Fault Float
 dotTold (Value v) = value v
-dotTold (Refused k) = refused (numberOf k)
+dotTold (Refused k) = refused (faultOf k)
 
 -- what `dot`'s contract says of a result r
 abbrev pub DotSaid : List Float → List Float → DotResult → Type 0
 DotSaid a b r = dotTold r ≡ dotOf a b
 
 -- `Written` tells of what the buffer holds now
-abbrev pub pointTold : PointResult → List Float → Result (List Float)
+abbrev pub pointTold : PointResult → List Float → ResultBy Fault (List Float)
 pointTold Written held = value held
-pointTold (Untouched k) held = refused (numberOf k)
+pointTold (Untouched k) held = refused (faultOf k)
 
 -- what `point`'s contract says of a result r and of what the buffer holds `now`, where it held `held`
 abbrev pub PointSaid : List Float → Float → List Float → List Float → PointResult → List Float → Type 0
