@@ -43,7 +43,7 @@ COUNTS = "evaluations [0-9]{1,10} iterations [0-9]{1,10}"
 OUTCOME = "ASK {n}|STOP (?:wolfe|approximate|met) {n} {c}|LIMIT {n} {c}|REFUSED [1-9]".format(n=NUMBER, c=COUNTS)
 CASE_LINE = "|".join((
     "CASE [1-9][0-9]*", "{o}", "BRACKET (?:none|{n}(?: {n}){{5}})", "BEST (?:none|{n} {n} {n})", "COUNTS {c}",
-    "VALUE {n}", "POINT", "OUT(?: {n}){{0,511}}", "MALFORMED at [0-9]+",
+    "VALUE {n}", "POINT", "REFUSED [24] at [0-9]{{1,3}}", "OUT(?: {n}){{0,511}}", "MALFORMED at [0-9]+",
 )).format(o=OUTCOME, n=NUMBER, c=COUNTS)
 
 

@@ -27,19 +27,35 @@ def places(n):
 
 
 def not_finite():
-    """At the first, a middle and the last place of each vector, and as alpha."""
+    """At the first, a middle and the last place of each vector, of vectors of some lengths."""
     cases = []
-    for n in (1, 2, 3):
-        for bad in NOT_FINITE:
+    for n, kinds in (1, NOT_FINITE), (2, NOT_FINITE), (3, NOT_FINITE), (40, NOT_FINITE[:2]), (256, NOT_FINITE[:1]):
+        twos = [TWO] * n
+        for bad in kinds:
             for at in places(n):
-                broken, twos = with_(n, at, bad), [TWO] * n
+                broken = with_(n, at, bad)
                 cases += [dot(broken, twos), dot(twos, broken)]
                 cases += [point(broken, HALF, twos, n), point(twos, HALF, broken, n)]
-            cases += [point([ONE] * n, bad, [TWO] * n, n), point([ONE] * n, bad, [0] * n, n)]
-    ones = [ONE] * 256
-    first, middle, last = [with_(256, at, bad) for at, bad in zip(places(256), NOT_FINITE)]
-    cases += [dot(ones, first), dot(middle, ones), dot(last, ones), dot(ones, last)]
-    return cases + [point(ones, HALF, middle, 256), point(last, HALF, ones, 256)]
+    return cases
+
+
+def at_once():
+    """Both vectors bad, at the same place and at two, the lower one in either; and alpha, alone and beside them."""
+    cases = []
+    for n in (2, 3, 40):
+        good = [ONE] * n
+        for alpha in NOT_FINITE:
+            cases += [point(good, alpha, [TWO] * n, n), point(good, alpha, [0] * n, n)]
+        for i in places(n):
+            a = with_(n, i, NAN)
+            cases += [point(a, INF, good, n), point(good, SIGN | INF, a, n)]
+            for j in places(n):
+                b = with_(n, j, INF)
+                cases += [dot(a, b), dot(b, a), point(a, HALF, b, n), point(a, NAN, b, n)]
+        cases += [dot([NAN] * n, [INF] * n), point([INF] * n, NAN, [NAN] * n, n)]
+    first, last, good = with_(256, 0, INF), with_(256, 255, NAN), [ONE] * 256
+    cases += [dot(first, last), dot(last, first), point(last, NAN, last, 256), point(good, NAN, good, 256)]
+    return cases
 
 
 def order():
@@ -75,6 +91,21 @@ def overflow():
         dot([MAX, F(2.0 ** 969)], [ONE, ONE]),                      # below half a unit of the last place: rounds back
         dot([MAX, F(2.0 ** 970)], [ONE, ONE]),                      # half a unit: rounds to infinity
     ]
+
+
+def overflow_at_each_place():
+    """The partial sum at each place, by that product and by the sum; the element at each place, and at a later one too.
+    The products or elements behind it are finite, and would bring an exact sum back."""
+    cases = []
+    for n, at in [(n, i) for n in (2, 3, 40) for i in range(n)] + [(256, i) for i in places(256)]:
+        back = [SIGN | MAX if i == at + 1 else ONE for i in range(n)]
+        product = [MAX if i == at else back[i] for i in range(n)]
+        cases.append(dot(product, [TWO if i == at else ONE for i in range(n)]))
+        total = [MAX if i in (0, at) else back[i] for i in range(n)]
+        cases.append(dot(total, [TWO if at == 0 else ONE] + [ONE] * (n - 1)))
+        cases.append(point([ONE] * n, TWO, with_(n, at, MAX), n))
+        cases.append(point([ONE] * n, TWO, [MAX if i in (at, n - 1) else ONE for i in range(n)], n))
+    return cases
 
 
 def zeros():
@@ -120,4 +151,5 @@ def at_random(r):
 
 def listed():
     r = Random(20060101)
-    return lengths(r) + not_finite() + order() + overflow() + zeros() + subnormals() + patterns(r) + at_random(r)
+    faults = not_finite() + at_once() + order() + overflow() + overflow_at_each_place()
+    return lengths(r) + faults + zeros() + subnormals() + patterns(r) + at_random(r)

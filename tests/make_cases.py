@@ -16,7 +16,8 @@ from exact import F
 from model_cases import expected
 
 SHOWN = ["ASK", "STOP wolfe", "STOP approximate", "STOP met", "LIMIT", *("REFUSED %d" % n for n in range(1, 9)),
-         "VALUE", "POINT", "OUT", "BRACKET none", "BEST none", "COUNTS", "MALFORMED"]
+         "REFUSED 2 at 0", "REFUSED 2 at 256", "REFUSED 4 at 0", "REFUSED 4 at 255", "VALUE", "POINT", "OUT",
+         "BRACKET none", "BEST none", "COUNTS", "MALFORMED"]
 
 
 def listed():

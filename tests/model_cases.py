@@ -34,18 +34,22 @@ def search_lines(fields):
     return lines + ["BRACKET " + bracket, "BEST " + best, "COUNTS " + counts(s)]
 
 
+def refusal(number, index=None):
+    return "REFUSED %d" % number if index is None else "REFUSED %d at %d" % (number, index)
+
+
 def dot_lines(body):
     n = struct.unpack(">H", body[:2])[0]
     v = floats(body[4:])
     refused, value = model_numbers.dot(v[:n], v[n:])
-    return ["REFUSED %d" % refused if refused else "VALUE " + number(value)]
+    return [refusal(*refused) if refused else "VALUE " + number(value)]
 
 
 def point_lines(body):
     n, _, k = struct.unpack(">HHH", body[:6])
     alpha, *v = floats(body[6:])
     refused, out = model_numbers.point(v[:n], alpha, v[n:], [INF] * k)
-    return ["REFUSED %d" % refused if refused else "POINT", " ".join(["OUT"] + [number(w) for w in out])]
+    return [refusal(*refused) if refused else "POINT", " ".join(["OUT"] + [number(w) for w in out])]
 
 
 def case_lines(fields):

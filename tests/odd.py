@@ -4,10 +4,10 @@ fall together.
 
 usage: odd.py CASES EXPECTED     writes the case file, and the text that `cases` has to write for it.
 
-The expected lines were worked out by hand from the rules (01); nothing here computes them. In them `|` parts lines, and
-a float is written by its first hexadecimal digits and a dot, which stands for zeros up to 16 digits: 3FF. is 1.0, 4. is
-2.0, C. is -2.0 and 8. is -0.0. A case is its name, 01's words that decide it, its first field, the answers, the lines
-for these, and the closing lines.
+The expected lines were worked out by hand from the rules (01, 02); nothing here computes them. In them `|` parts lines,
+and a float is written by its first hexadecimal digits and a dot, which stands for zeros up to 16 digits: 3FF. is 1.0,
+4. is 2.0, C. is -2.0 and 8. is -0.0. A case is its name, the words of 01 or 02 that decide it, its first field, the
+answers, the lines for these, and the closing lines.
 
 Where nothing else is said: delta 0.25, sigma 0.5, epsilon 0, theta 0.5, gamma 0.5, bounds 0 and 4, start step 1,
 f0 = 1, s0 = -2. So L = 1, "wolfe" is f - 1 <= (0.25*x)*-2 with g >= -1, and "approximate" is 1 >= g >= -1 with f <= 1.
@@ -267,14 +267,14 @@ CASES = [
     ("dot-from-the-left", "Dot adds products from the left",
      dot([2.0 ** 53, 1, -2.0 ** 53], [1, 1, 1]), [], "CASE 53 | VALUE 0.", ""),
     ("dot-overflows-on-the-way", "4: a dot .. comes out not finite",
-     dot([HUGE, HUGE, -HUGE], [1, 1, 1]), [], "CASE 54 | REFUSED 4", ""),
+     dot([HUGE, HUGE, -HUGE], [1, 1, 1]), [], "CASE 54 | REFUSED 4 at 1", ""),
     ("dot-of-256", "Vectors have n elements, 1 <= n <= 256.",
      dot([1.0] * 256, [1.0] * 256), [], "CASE 55 | VALUE 407.", ""),
     ("dot-of-257", "1: n is 0, above 256; then 1, 9, 2", dot([NAN] * 257, [1.0] * 257), [], "CASE 56 | REFUSED 1", ""),
     ("dot-of-0", "1: n is 0", dot([], []), [], "CASE 57 | REFUSED 1", ""),
     ("point-last-element-overflows", "A scaled point checks all elements before it writes any.",
      point([1, 2, HUGE], HUGE, [1, 1, 1], 3), [],
-     "CASE 58 | REFUSED 4 | OUT 7FF. 7FF. 7FF.", ""),
+     "CASE 58 | REFUSED 4 at 2 | OUT 7FF. 7FF. 7FF.", ""),
     ("point-keeps-minus-zero", "A point is x0[i] + alpha*d[i].",
      point([-0.0, 1], -0.0, [1, 5], 2), [], "CASE 59 | POINT | OUT 8. 3FF.", ""),
     ("point-lengths-before-NaN", "1: lengths differ; then 1, 9, 2",
@@ -292,6 +292,23 @@ CASES = [
      bt(ARMIJO, 0.5, rho=NAN, N=0), [(0, 0)], "CASE 66 | REFUSED 2 | REFUSED 8", NONE),
     ("B-and-N-above-their-ranges", "U3 budget B is 1 to 1,000; iteration limit N is 1 to 10,000",
      hz(B=1001, N=10001), [], "CASE 67 | REFUSED 3", NONE),
+    # where the fault is (02, request 1)
+    ("dead-sensor-39-of-40", "for 2, the lowest index bad in any supplied vector",
+     point([1.0] * 39 + [NAN], 0.5, [1.0] * 40, 40), [], "CASE 68 | REFUSED 2 at 39 | OUT" + " 7FF." * 40, ""),
+    ("lower-in-the-second-vector", "for 2, the lowest index bad in any supplied vector",
+     dot([1, 1, NAN], [1, INF, 1]), [], "CASE 69 | REFUSED 2 at 1", ""),
+    ("bad-in-both-at-one-index", "If several vectors are bad at that index, no vector is named.",
+     dot([1, NAN], [1, INF]), [], "CASE 70 | REFUSED 2 at 1", ""),
+    ("alpha-alone", "A bad alpha alone gives index n.",
+     point([1, 2, 3], NAN, [1, 2, 3], 3), [], "CASE 71 | REFUSED 2 at 3 | OUT 7FF. 7FF. 7FF.", ""),
+    ("alpha-and-an-element", "A bad alpha alone gives index n.",
+     point([1, 2, 3], INF, [1, NAN, 3], 3), [], "CASE 72 | REFUSED 2 at 1 | OUT 7FF. 7FF. 7FF.", ""),
+    ("first-product-overflows", "for 4, the first index whose partial sum or element is not finite",
+     dot([HUGE, -HUGE, 1], [2, 2, 1]), [], "CASE 73 | REFUSED 4 at 0", ""),
+    ("NaN-behind-an-overflow", "then 1, 9, 2, 3, 4 in that order",
+     dot([HUGE, HUGE, NAN], [1, 1, 1]), [], "CASE 74 | REFUSED 2 at 2", ""),
+    ("first-element-of-two-that-overflow", "for 4, the first index whose partial sum or element is not finite",
+     point([1, HUGE, HUGE], 1.0, [1, HUGE, HUGE], 3), [], "CASE 75 | REFUSED 4 at 1 | OUT 7FF. 7FF. 7FF.", ""),
 ]
 
 

@@ -17,7 +17,7 @@ fn dot_line(out: &mut [u8], at: usize, a: &[f64], n: usize, b: &[f64], m: usize)
 {
     match vectors::dot(&a[..n], &b[..m]) {
         DotResult::Value(v) => lines::value(out, at, v),
-        DotResult::Refused(r) => lines::refused(out, at, r.number()),
+        DotResult::Refused(k) => lines::fault(out, at, k),
     }
 }
 
@@ -46,7 +46,7 @@ fn point_line(
 {
     match vectors::point(&x0[..n], alpha, &d[..m], &mut buffer[..k]) {
         PointResult::Written => text::word(out, at, b"POINT\n"),
-        PointResult::Untouched(r) => lines::refused(out, at, r.number()),
+        PointResult::Untouched(k) => lines::fault(out, at, k),
     }
 }
 

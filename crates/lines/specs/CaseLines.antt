@@ -1,10 +1,12 @@
 -- docs/FORMATS.md, "What `cases` writes": a case's own lines. Each ends with a newline. (`POINT` has nothing behind it,
 -- and stands in the program itself.)
 use Prim.Native.Nat.{ℕ}
-use mathlib.Core.List.{List, [], _∷_}
+use mathlib.Core.List.{List, [], _∷_, _++_}
 use lib.Ieee.{Float}
-use Rattle.text.specs.Text.{bytes}
+use Rattle.text.specs.Text.{bytes, decimalOf}
 use Rattle.text.specs.Figures.{floatsLine, numberLine}
+use Rattle.vectors.specs.Faults.{Fault, alone, _at_}
+use Rattle.lines.specs.Lines.{refusedLine}
 
 -- `CASE k`: "k counts from 1"
 abbrev pub headLine : ℕ → List ℕ
@@ -17,6 +19,15 @@ malformedLine b = numberLine (bytes "MALFORMED at ") b
 -- a dot: `VALUE h`
 abbrev pub valueLine : Float → List ℕ
 valueLine x = floatsLine (bytes "VALUE") (x ∷ [])
+
+-- `REFUSED n at i`: "i is the index of the first element at fault, counted from 0"
+abbrev pub refusedAtLine : ℕ → ℕ → List ℕ
+refusedAtLine n i = bytes "REFUSED " ++ decimalOf n ++ numberLine (bytes " at ") i
+
+-- a dot or a point that is refused
+abbrev pub faultLine : Fault → List ℕ
+faultLine (alone n) = refusedLine n
+faultLine (n at i) = refusedAtLine n i
 
 -- a point: "`OUT` and the buffer's numbers, each behind a blank"
 abbrev pub bufferLine : List Float → List ℕ

@@ -9,12 +9,14 @@ use runs::Evaluations;
 use runs::Iterations;
 use runs::Outcome;
 use runs::Verdict;
+use vectors::Refusal;
 ghost use mathlib.Core.List.{_++_};
 ghost use Rattle.runs.specs.Outcomes.{verdictWord, told};
 ghost use Rattle.text.specs.Text.{Writes, bytes};
 ghost use Rattle.hagerzhang.specs.Meaning.{lastOf, report};
 ghost use Rattle.lines.specs.Lines.{verdictText, countsText, stopLine, limitLine, refusedLine, outcomeLine};
-ghost use Rattle.lines.specs.CaseLines.{headLine, malformedLine, valueLine, bufferLine};
+ghost use Rattle.vectors.specs.Told.{faultOf};
+ghost use Rattle.lines.specs.CaseLines.{headLine, malformedLine, valueLine, refusedAtLine, faultLine, bufferLine};
 ghost use Rattle.lines.specs.Closing.{noBracketText, closingText};
 
 // ---- an outcome: ASK, STOP, LIMIT or REFUSED
@@ -97,6 +99,27 @@ pub fn value(out: &mut [u8], at: usize, x: f64) -> usize
     ensures { λ r. ⌜ Writes (now (out .entry)) at (valueLine x) (now (out .exit)) r ⌝ }
 {
     text::floats_line(out, at, b"VALUE", &[x])
+}
+
+// `REFUSED n at i`, with an index.
+fn refused_at(out: &mut [u8], at: usize, n: u32, i: usize) -> usize
+    ensures { λ r. ⌜ Writes (now (out .entry)) at (refusedAtLine n i) (now (out .exit)) r ⌝ }
+{
+    let p = text::word(out, at, b"REFUSED ");
+    let q = text::decimal(out, p, n as u64);
+    text::number_line(out, q, b" at ", i as u64)
+}
+
+// `REFUSED 1`, `REFUSED 2 at i` or `REFUSED 4 at i`, of a dot or a point.
+pub fn fault(out: &mut [u8], at: usize, k: Refusal) -> usize
+    ensures { λ r. ⌜ Writes (now (out .entry)) at (faultLine (faultOf k)) (now (out .exit)) r ⌝ }
+{
+    let n = k.number();
+    match k {
+        Refusal::Lengths => refused(out, at, n),
+        Refusal::SuppliedNotFinite(i) => refused_at(out, at, n, i),
+        Refusal::ResultNotFinite(i) => refused_at(out, at, n, i),
+    }
 }
 
 // `OUT h ..`, the numbers that a point's buffer holds.

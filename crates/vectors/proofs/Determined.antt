@@ -1,5 +1,6 @@
 -- Any two results that the contract of `dot` or of `point` allows are identical, and so is what `point` leaves in the
--- buffer (01, "How tight the contracts are"): a result, its index too, can be read back from what is told of it. Assumes nothing.
+-- buffer (01, "How tight the contracts are"): a result, its index too, can be read back from what is told of it.
+-- Assumes nothing.
 use mathlib.Core.Path.{_≡_, refl, sym, ap, _∙_}
 use mathlib.Core.Bool.{cond}
 use mathlib.Core.List.{List}

@@ -1,5 +1,6 @@
--- A partial sum that is not finite stays so to the end (`sums-stay`), so that one test of the last sum finds an overflow
--- at any place (`last-shows`). And the first that is not finite, as a loop finds it (`overflow-found`). Assumes nothing.
+-- A partial sum that is not finite stays so to the end (`sums-stay`), so that one test of the last sum finds an
+-- overflow at any place (`last-shows`). And the first that is not finite, as a loop finds it (`overflow-found`).
+-- Assumes nothing.
 use mathlib.Core.Path.{_≡_, refl, sym, ap, _∙_}
 use mathlib.Core.List.{List, [], _∷_, _++_, foldl, foldl-append}
 use mathlib.Core.Bool.{Bool, true, false, not, cond, Bool·beq, true≢false}
@@ -52,9 +53,10 @@ pub sums-stay : (ps : List Float) (i j : ℕ) → 0 < length ps → i ≤ j → 
 sums-stay [] i j h le e = absurd (not-suc-le-zero h)
 sums-stay (p ∷ ps) i j h le e =
     let more : i + (j - i) ≡ j = omega arith in
-    let split : take j ps ≡ take i ps ++ take (j - i) (drop i ps) = ap (λ k. take k ps) (sym more) ∙ take-add i (j - i) ps in
-    ap finite (ap (foldl _⊕_ p) split ∙ foldl-append _⊕_ p (take i ps) (take (j - i) (drop i ps)))
-    ∙ stays-not-finite (foldl _⊕_ p (take i ps)) (take (j - i) (drop i ps)) e
+    let rest = take (j - i) (drop i ps) in
+    let split : take j ps ≡ take i ps ++ rest = ap (λ k. take k ps) (sym more) ∙ take-add i (j - i) ps in
+    ap finite (ap (foldl _⊕_ p) split ∙ foldl-append _⊕_ p (take i ps) rest)
+    ∙ stays-not-finite (foldl _⊕_ p (take i ps)) rest e
 
 -- the last one is the dot
 pub last-sum : (ps : List Float) (i : ℕ) → length ps ≤ suc i → partialSum ps i ≡ leftSum ps

@@ -38,16 +38,17 @@ module _ {x y i : ℕ} {c1 c2 c4 : Bool} where
   by-4 (later f (this e t)) = let z = ap numberIn e in absurd (omega arith)
   by-4 (later f (later g (this e t))) = (f, t, cc)
 
-row-given : {A : Type 0} (rows : List (RowBy Fault)) (v : A) (k : Fault) → (refuse rows else v) ≡ refused k → First k rows
+row-given : {A : Type 0} (rows : List (RowBy Fault)) (v : A) (k : Fault) → (refuse rows else v) ≡ refused k
+    → First k rows
 row-given rows v k e = given-first k rows (sym (by-rows rows v) ∙ ap refusedBy e)
 
 -- ---- what `first` gives is the first index, or the test holds at none
 first-or-none : (p : ℕ → Bool) (n i : ℕ) → first p n ≡ i → IsFirst p n i ⊎ (n ≤ first p n)
 first-or-none p n i e = by-test _ refl
   where
-  by-test : (b : Bool) → ltb (first p n) n ≡ b → IsFirst p n i ⊎ (n ≤ first p n)
-  by-test true t = inl (subst (IsFirst p n) e (is-first p n (ltb-true _ _ t)))
-  by-test false t = inr (ltb-false _ _ t)
+    by-test : (b : Bool) → ltb (first p n) n ≡ b → IsFirst p n i ⊎ (n ≤ first p n)
+    by-test true t = inl (subst (IsFirst p n) e (is-first p n (ltb-true _ _ t)))
+    by-test false t = inr (ltb-false _ _ t)
 
 -- ---- a dot
 
@@ -73,15 +74,16 @@ module _ (a b : List Float) where
       (λ over. absurd (true≢false (sym (bad-in-none a b (fit (row .0) .1) _ refl over) ∙ not-true _ (row .1))))
       (first-or-none (badInAny a b) (length a) i (row .2))
 
-  result-at : (i : ℕ) → dotOf a b ≡ refused (4 at i) → (0 < length (products a b)) × IsFirst (sumBad (products a b)) (length a) i
+  result-at : (i : ℕ) → dotOf a b ≡ refused (4 at i)
+      → (0 < length (products a b)) × IsFirst (sumBad (products a b)) (length a) i
   result-at i e =
       let row = by-4 (row-given (dotRows a b) _ (4 at i) e) in
       let lengths = fit (row .0) in
       let long = zip-length _⊗_ a b (lengths .1) in (
         omega arith,
         ⊎-elim (λ it. it)
-        (λ over. absurd (last-bad (products a b) (length a) long (lengths .0) (not-true _ (row .1)) over))
-        (first-or-none (sumBad (products a b)) (length a) i (row .2)),
+            (λ over. absurd (last-bad (products a b) (length a) long (lengths .0) (not-true _ (row .1)) over))
+            (first-or-none (sumBad (products a b)) (length a) i (row .2)),
       )
 
 pub dot-at : (a b : List Float) (told : ResultBy Fault Float) → told ≡ dotOf a b → DotAt a b told
@@ -89,8 +91,8 @@ dot-at a b told said = record {
   supplied = λ i e. supplied-at a b i (sym said ∙ e);
   result = λ i e. result-at a b i (sym said ∙ e) .1;
   stays = λ i j e le.
-    let it = result-at a b i (sym said ∙ e) in
-    ap not (sums-stay (products a b) i j (it .0) le (not-true _ (it .1 .holds)));
+      let it = result-at a b i (sym said ∙ e) in
+      ap not (sums-stay (products a b) i j (it .0) le (not-true _ (it .1 .holds)));
 }
 
 pub one-condition : (ps : List Float) → 0 < length ps → OneCondition ps

@@ -10,8 +10,8 @@ use Rattle.refusals.specs.Results.{ResultBy, refused}
 use Rattle.vectors.specs.Faults.{Fault, _at_, IsFirst}
 use Rattle.vectors.specs.Vectors.{bad, badInAny, products, leftSum, partialSum, sumBad, moved}
 
--- what is told of a dot: with 2 "the lowest index bad in any supplied vector", with 4 "the first index whose partial sum
--- .. is not finite"; no later one is finite either
+-- what is told of a dot: with 2 "the lowest index bad in any supplied vector", with 4 "the first index whose partial
+-- sum .. is not finite"; no later one is finite either
 pub record DotAt (a b : List Float) (told : ResultBy Fault Float) : Type 0 where
   pub supplied : (i : ℕ) → told ≡ refused (2 at i) → IsFirst (badInAny a b) (length a) i
   pub result : (i : ℕ) → told ≡ refused (4 at i) → IsFirst (sumBad (products a b)) (length a) i
@@ -29,6 +29,7 @@ pub data AtFault (x0 : List Float) (alpha : Float) (d : List Float) (i : ℕ) : 
       → AtFault x0 alpha d i
 
 -- what is told of a point: with 4 "the first index whose .. element is not finite"
-pub record PointAt (x0 : List Float) (alpha : Float) (d : List Float) (told : ResultBy Fault (List Float)) : Type 0 where
+pub record PointAt (x0 : List Float) (alpha : Float) (d : List Float) (told : ResultBy Fault (List Float))
+    : Type 0 where
   pub supplied : (i : ℕ) → told ≡ refused (2 at i) → AtFault x0 alpha d i
   pub result : (i : ℕ) → told ≡ refused (4 at i) → IsFirst (bad (moved x0 alpha d)) (length x0) i

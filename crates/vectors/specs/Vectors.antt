@@ -45,8 +45,8 @@ abbrev pub sumBad : List Float → ℕ → Bool
 sumBad ps i = not (finite (partialSum ps i))
 
 -- 01, the table, of a dot. 1: "n is 0, above 256, or lengths differ"; 2: "a supplied number is NaN or infinite";
--- 4: "a dot .. comes out not finite". 02, request 1: 2 tells "the lowest index bad in any supplied vector", 4 "the first
--- index whose partial sum .. is not finite"
+-- 4: "a dot .. comes out not finite". 02, request 1: 2 tells "the lowest index bad in any supplied vector", 4 "the
+-- first index whose partial sum .. is not finite"
 abbrev pub dotRows : List Float → List Float → List (RowBy Fault)
 dotRows a b =
     (alone 1, badLength (length a) || not (eqb (length a) (length b)))

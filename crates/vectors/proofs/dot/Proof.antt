@@ -52,7 +52,8 @@ returns-4 c =
     rw (lengths-ok (sum .before .before .before), supplied-ok (sum .before), f, sum .left-sum .ensures)
 
 -- the dot is not finite
-overflows : (c : tie.Else4) → let s = c .before .before .before .before .before .before .before .before .before .before .args in
+overflows : (c : tie.Else4) → let e2 = c .before .before .before .before .before in
+    let s = e2 .before .before .before .before .before .args in
     finite (leftSum (products (now (s .a)) (now (s .b)))) ≡ false
 overflows c =
     ap finite (sym (c .before .before .left-sum .ensures)) ∙ sym (c .before .is-finite .ensures) ∙ c .if4 .left

@@ -22,14 +22,16 @@ returns : tie.Need-returns Inv-loop μ-loop
 returns c =
     let l = c .before .before .before .before .before in
     let a = l .before .before .before .args in
-    let here = tested (now (a .xs)) (now (a .ys)) (l .loop .i) _ true (c .before .both-finite .ensures) (c .if1 .taken) in
+    let both = c .before .both-finite .ensures in
+    let here = tested (now (a .xs)) (now (a .ys)) (l .loop .i) _ true both (c .if1 .taken) in
     sym (first-is _ _ _ record { below = omega arith; holds = here; lowest = l .loop .inv .1 })
 
 loop-again : tie.Need-loop-again Inv-loop μ-loop
 loop-again c =
     let l = c .before .before .before .before .before in
     let a = l .before .before .before .args in
-    let here = tested (now (a .xs)) (now (a .ys)) (l .loop .i) _ false (c .before .both-finite .ensures) (c .if1 .left) in
+    let both = c .before .both-finite .ensures in
+    let here = tested (now (a .xs)) (now (a .ys)) (l .loop .i) _ false both (c .if1 .left) in
     (omega arith, below-more _ _ (l .loop .inv .1) here)
 
 returns-2 : tie.Need-returns-2 Inv-loop μ-loop

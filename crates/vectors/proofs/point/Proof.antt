@@ -26,7 +26,8 @@ lengths-ok c =
     let e2 = c .before in
     rw (length-ok (e2 .before), eq-eqb _ _ (e2 .if2 .left), eq-eqb _ _ (c .if3 .left))
 
-elements-ok : (c : tie.Else4) → let s = c .before .before .before .before .before .before .before .before .before .args in
+elements-ok : (c : tie.Else4) → let e2 = c .before .before .before in
+    let s = e2 .before .before .before .before .before .before .args in
     (allFinite (now (s .x0)) && allFinite (now (s .d))) ≡ true
 elements-ok c =
     let e2 = c .before .before .before in
@@ -96,8 +97,10 @@ returns-6 c =
     let f = lengths-ok (e4 .before .before) in
     let found = c .before .first-bad-moved .ensures in
     let s = e4 .before .before .before .before .before .before .before .before .before .args in
+    let g = alpha-ok e5 in
+    let k = elements-ok e4 in
     let h = bad-at (moved (now (s .x0)) (s .alpha) (now (s .d))) _ (moved-length e5) _ found (c .if6 .taken) in
-    (rw (f, alpha-ok e5, elements-ok e4, h, found), rw (f, alpha-ok e5, elements-ok e4, h))
+    (rw (f, g, k, h, found), rw (f, g, k, h))
 
 returns-7 : tie.Need-returns-7
 returns-7 c =
@@ -109,7 +112,9 @@ returns-7 c =
     let s = e4 .before .before .before .before .before .before .before .before .before .args in
     let m = moved (now (s .x0)) (s .alpha) (now (s .d)) in
     let h = bad-nowhere m _ (moved-length e5) _ (e6 .before .first-bad-moved .ensures) (e6 .if6 .left) in
-    (rw (f, alpha-ok e5, elements-ok e4, h, w .write-moved .ensures), rw (f, alpha-ok e5, elements-ok e4, h) (w .write-moved .ensures))
+    let g = alpha-ok e5 in
+    let k = elements-ok e4 in
+    (rw (f, g, k, h, w .write-moved .ensures), rw (f, g, k, h) (w .write-moved .ensures))
 
 pub point-spec : {M : Type 1} → statement M
 point-spec =
