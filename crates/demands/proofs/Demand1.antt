@@ -43,7 +43,7 @@ demand1 = record {
   };
   dot-at = λ a b r said. dot-at a b (dotTold r) said;
   point-at = λ x0 alpha d held r now said. point-at x0 alpha d (length held) (pointTold r now) (said .0);
-  dot-overflows = one-condition;
+  one-condition = one-condition;
   buffer = buffers-untouched;
   condition = λ C r said. record { exactly = ap refusedBy said ∙ by-rows (conditionRows C) _; ordered = refl };
   condition-kept = λ C D said. sym (passed (conditionRows C) C D (sym said) .1);

@@ -1,7 +1,8 @@
 -- Demand 1: "Any input gets an answer. Non-finite numbers, bad parameters, a spent U3 budget, a stalled U3 and calls
 -- after the end are refused by number. Document 01 fixes each refusal, the state after it and any lent buffer." Every
--- public function is total by its contract; here is what each refuses, and what a refusal leaves.
-use Prim.Native.Nat.{ℕ, _<_}
+-- public function is total by its contract; here is what each refuses, of vectors at which index, and what a refusal
+-- leaves.
+use Prim.Native.Nat.{ℕ}
 use mathlib.Core.Path.{_≡_}
 use mathlib.Core.Bool.{true, false, cond, not, _&&_}
 use mathlib.Core.List.{List, [], _∷_}
@@ -125,7 +126,8 @@ pub record Demand1 : Type 0 where
   pub dot-at : (a b : List Float) (r : DotResult) → DotSaid a b r → DotAt a b (dotTold r)
   pub point-at : (x0 : List Float) (alpha : Float) (d held : List Float) (r : PointResult) (now : List Float)
       → PointSaid x0 alpha d held r now → PointAt x0 alpha d (pointTold r now)
-  pub dot-overflows : (ps : List Float) → 0 < length ps → OneCondition ps
+  -- "a dot .. comes out not finite", and some partial sum does: one condition
+  pub one-condition : (ps : List Float) → OneCondition ps
   -- "buffers untouched"
   pub buffer : (x0 : List Float) (alpha : Float) (d held : List Float) (r : PointResult) (now : List Float) (k : Fault)
       → PointSaid x0 alpha d held r now → pointTold r now ≡ refused k → now ≡ held

@@ -20,7 +20,7 @@ malformedLine b = numberLine (bytes "MALFORMED at ") b
 abbrev pub valueLine : Float → List ℕ
 valueLine x = floatsLine (bytes "VALUE") (x ∷ [])
 
--- `REFUSED n at i`: "i is the index of the first element at fault, counted from 0"
+-- `REFUSED n at i`: "i is the index of the first element at fault, counted from 0, in decimal"
 abbrev pub refusedAtLine : ℕ → ℕ → List ℕ
 refusedAtLine n i = bytes "REFUSED " ++ decimalOf n ++ numberLine (bytes " at ") i
 

@@ -32,7 +32,7 @@ numberOf AlreadyOver = 8
 abbrev pub order : List ℕ
 order = 8 ∷ 1 ∷ 9 ∷ 2 ∷ 3 ∷ 4 ∷ 6 ∷ 5 ∷ 7 ∷ []
 
--- the first of the rows whose condition holds gives what it tells
+-- what the first row tells whose condition holds
 unfoldable pub given : {K : Type 0} → List (RowBy K) → Option K
 given [] = none
 given (r ∷ rows) = cond (r .1) (some (r .0)) (given rows)
@@ -43,7 +43,7 @@ inOrder numbers [] = true
 inOrder [] (m ∷ ms) = false
 inOrder (n ∷ numbers) (m ∷ ms) = cond (eqb n m) (inOrder (n ∷ numbers) ms) (inOrder numbers (m ∷ ms))
 
--- refused by a table, or not at all: what is given, if anything, is what the first row tells that applies, and the rows
+-- refused by a table, or not at all: what is told, if anything, is what the first row that applies tells, and the rows
 -- come in 01's order, by the numbers in what they tell
 pub record TableBy {K : Type 0} (numberIn : K → ℕ) (told : Option K) (rows : List (RowBy K)) : Type 0 where
   pub exactly : told ≡ given rows

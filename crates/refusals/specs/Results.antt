@@ -4,7 +4,7 @@ use Prim.Native.Nat.{ℕ}
 use mathlib.Core.Bool.{Bool, cond}
 use mathlib.Core.List.{List, [], _∷_}
 
--- K is what a refusal tells: its number, and where that is not all, what else
+-- K is what a refusal tells: its number, or its number and more
 pub data ResultBy (K A : Type 0) : Type 0 where
   value : A → ResultBy K A
   refused : K → ResultBy K A

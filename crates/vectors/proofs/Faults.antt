@@ -12,7 +12,7 @@ use lib.Ieee.{Float, nan}
 use lib.Ieee.Scale.{finite}
 use Rattle.floats.proofs.Branches.{both, neither-first, neither-second}
 use Rattle.numbers.specs.Numbers.{bothFinite}
-use Rattle.vectors.specs.Faults.{first, IsFirst}
+use Rattle.vectors.specs.Faults.{first}
 use Rattle.vectors.specs.Vectors.{allFinite, bad, badInAny}
 use Rattle.vectors.proofs.First.{is-first, none-before, none-found}
 

@@ -48,10 +48,10 @@ sum-next (p ∷ ps) (suc i) h k =
     ap (foldl _⊕_ p) (take-suc ps i nan (le-of-suc-le-suc k)) ∙ foldl-append _⊕_ p (take i ps) (getD ps i nan ∷ [])
 
 -- once a partial sum is not finite, every later one is not
-pub sums-stay : (ps : List Float) (i j : ℕ) → 0 < length ps → i ≤ j → finite (partialSum ps i) ≡ false
+pub sums-stay : (ps : List Float) (i j : ℕ) → i ≤ j → finite (partialSum ps i) ≡ false
     → finite (partialSum ps j) ≡ false
-sums-stay [] i j h le e = absurd (not-suc-le-zero h)
-sums-stay (p ∷ ps) i j h le e =
+sums-stay [] i j le e = e
+sums-stay (p ∷ ps) i j le e =
     let more : i + (j - i) ≡ j = omega arith in
     let rest = take (j - i) (drop i ps) in
     let split : take j ps ≡ take i ps ++ rest = ap (λ k. take k ps) (sym more) ∙ take-add i (j - i) ps in
@@ -63,10 +63,9 @@ pub last-sum : (ps : List Float) (i : ℕ) → length ps ≤ suc i → partialSu
 last-sum ps i h = ap leftSum (take-all (suc i) ps h)
 
 -- so it shows whether any was not finite
-pub last-shows : (ps : List Float) (i : ℕ) → 0 < length ps → finite (partialSum ps i) ≡ false
-    → finite (leftSum ps) ≡ false
-last-shows ps i h e =
-    ap finite (sym (last-sum ps (i + length ps) (omega arith))) ∙ sums-stay ps i (i + length ps) h (omega arith) e
+pub last-shows : (ps : List Float) (i : ℕ) → finite (partialSum ps i) ≡ false → finite (leftSum ps) ≡ false
+last-shows ps i e =
+    ap finite (sym (last-sum ps (i + length ps) (omega arith))) ∙ sums-stay ps i (i + length ps) (omega arith) e
 
 -- ---- the first that is not finite, by a loop that has added i products
 pub overflow-found : (ps : List Float) (n i : ℕ) → 0 < i → i ≤ n → finite (leftSum (take i ps)) ≡ false

@@ -10,7 +10,7 @@ use mathlib.Core.Logic.{_⊎_, inl, inr, ⊎-elim}
 use borrow.Author.Tests.{ltb-true, ltb-false, eqb-true, not-true, not-false}
 use lib.Dec.{ltb, eqb}
 use lib.ListN.{length}
-use lib.Ieee.{Float}
+use lib.Ieee.{Float, ofBits}
 use lib.Ieee.Scale.{finite}
 use Rattle.floats.specs.Arithmetic.{_⊗_}
 use Rattle.floats.proofs.Branches.{neither-first, neither-second, and-first}
@@ -18,7 +18,7 @@ use Rattle.refusals.specs.Results.{ResultBy, refused, RowBy, refuse_else_}
 use Rattle.refusals.specs.Refusals.{refusedBy}
 use Rattle.refusals.proofs.Refusals.{First, this, later, given-first, by-rows}
 use Rattle.vectors.specs.Faults.{Fault, alone, _at_, numberIn, first, IsFirst}
-use Rattle.vectors.specs.Vectors.{badLength, allFinite, bad, badInAny, products, leftSum, sumBad, moved, movedBy}
+use Rattle.vectors.specs.Vectors.{badLength, bad, badInAny, products, leftSum, sumBad, moved, movedBy}
 use Rattle.vectors.specs.Vectors.{dotRows, dotOf, pointRows, pointOf}
 use Rattle.vectors.specs.Positions.{DotAt, OneCondition, AtFault, element, alpha-alone, PointAt}
 use Rattle.vectors.proofs.Elements.{not-empty, zip-length}
@@ -50,6 +50,9 @@ first-or-none p n i e = by-test _ refl
     by-test true t = inl (subst (IsFirst p n) e (is-first p n (ltb-true _ _ t)))
     by-test false t = inr (ltb-false _ _ t)
 
+first-then : (p : ℕ → Bool) (n i : ℕ) → first p n ≡ i → (n ≤ first p n → ⊥) → IsFirst p n i
+first-then p n i e never = ⊎-elim (λ it. it) (λ over. absurd (never over)) (first-or-none p n i e)
+
 -- ---- a dot
 
 last-bad : (ps : List Float) (n : ℕ) → length ps ≡ n → 0 < n → finite (leftSum ps) ≡ false → n ≤ first (sumBad ps) n → ⊥
@@ -70,36 +73,32 @@ module _ (a b : List Float) where
   supplied-at : (i : ℕ) → dotOf a b ≡ refused (2 at i) → IsFirst (badInAny a b) (length a) i
   supplied-at i e =
       let row = by-2 (row-given (dotRows a b) _ (2 at i) e) in
-      ⊎-elim (λ it. it)
-      (λ over. absurd (true≢false (sym (bad-in-none a b (fit (row .0) .1) _ refl over) ∙ not-true _ (row .1))))
-      (first-or-none (badInAny a b) (length a) i (row .2))
+      first-then (badInAny a b) (length a) i (row .2)
+      (λ over. true≢false (sym (bad-in-none a b (fit (row .0) .1) _ refl over) ∙ not-true _ (row .1)))
 
-  result-at : (i : ℕ) → dotOf a b ≡ refused (4 at i)
-      → (0 < length (products a b)) × IsFirst (sumBad (products a b)) (length a) i
+  result-at : (i : ℕ) → dotOf a b ≡ refused (4 at i) → IsFirst (sumBad (products a b)) (length a) i
   result-at i e =
       let row = by-4 (row-given (dotRows a b) _ (4 at i) e) in
       let lengths = fit (row .0) in
-      let long = zip-length _⊗_ a b (lengths .1) in (
-        omega arith,
-        ⊎-elim (λ it. it)
-            (λ over. absurd (last-bad (products a b) (length a) long (lengths .0) (not-true _ (row .1)) over))
-            (first-or-none (sumBad (products a b)) (length a) i (row .2)),
-      )
+      first-then (sumBad (products a b)) (length a) i (row .2)
+      (last-bad (products a b) (length a) (zip-length _⊗_ a b (lengths .1)) (lengths .0) (not-true _ (row .1)))
 
 pub dot-at : (a b : List Float) (told : ResultBy Fault Float) → told ≡ dotOf a b → DotAt a b told
 dot-at a b told said = record {
   supplied = λ i e. supplied-at a b i (sym said ∙ e);
-  result = λ i e. result-at a b i (sym said ∙ e) .1;
-  stays = λ i j e le.
-      let it = result-at a b i (sym said ∙ e) in
-      ap not (sums-stay (products a b) i j (it .0) le (not-true _ (it .1 .holds)));
+  result = λ i e. result-at a b i (sym said ∙ e);
 }
 
-pub one-condition : (ps : List Float) → 0 < length ps → OneCondition ps
-one-condition [] h = absurd (not-suc-le-zero h)
-one-condition (p ∷ ps) h = record {
-  some-sum = λ e. (length ps, omega arith, ap finite (last-sum (p ∷ ps) (length ps) (omega arith)) ∙ e);
-  dot-too = λ i e. last-shows (p ∷ ps) i h e;
+some-sum : (ps : List Float) → finite (leftSum ps) ≡ false → (i : ℕ) × (i < length ps) × (sumBad ps i ≡ true)
+unfolding ofBits
+some-sum [] e = absurd (true≢false e)
+some-sum (p ∷ ps) e = (length ps, omega arith, ap not (ap finite (last-sum (p ∷ ps) (length ps) (omega arith)) ∙ e))
+
+pub one-condition : (ps : List Float) → OneCondition ps
+one-condition ps = record {
+  stays = λ i j le e. ap not (sums-stay ps i j le (not-true _ e));
+  some-sum = some-sum ps;
+  dot-too = λ i e. last-shows ps i (not-true _ e);
 }
 
 -- ---- a point
@@ -128,9 +127,8 @@ module _ (x0 : List Float) (alpha : Float) (d : List Float) (m : ℕ) where
   element-at i e =
       let row = by-4 (row-given (pointRows x0 alpha d m) _ (4 at i) e) in
       let long = zip-length (movedBy alpha) x0 d (same-length (row .0)) in
-      ⊎-elim (λ it. it)
-      (λ over. absurd (true≢false (sym (bad-nowhere (moved x0 alpha d) _ long _ refl over) ∙ not-true _ (row .1))))
-      (first-or-none (bad (moved x0 alpha d)) (length x0) i (row .2))
+      first-then (bad (moved x0 alpha d)) (length x0) i (row .2)
+      (λ over. true≢false (sym (bad-nowhere (moved x0 alpha d) _ long _ refl over) ∙ not-true _ (row .1)))
 
 pub point-at : (x0 : List Float) (alpha : Float) (d : List Float) (m : ℕ) (told : ResultBy Fault (List Float))
     → told ≡ pointOf x0 alpha d m → PointAt x0 alpha d told

@@ -1,5 +1,5 @@
--- 02, request 1: a dot and a point that are refused by 2 or 4 tell "the index of the first element at fault". What a
--- refusal of vectors tells, and which index is the first.
+-- 02, request 1: a dot and a point that are refused by 2 or 4 tell "the index of the first element at fault". Here
+-- stands what a refusal of vectors tells, and which index is the first.
 use Prim.Native.Nat.{ℕ, zero, suc, _<_}
 use mathlib.Core.Path.{_≡_}
 use mathlib.Core.Bool.{Bool, true, false, cond}

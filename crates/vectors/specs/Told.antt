@@ -31,7 +31,7 @@ dotTold (Refused k) = refused (faultOf k)
 abbrev pub DotSaid : List Float → List Float → DotResult → Type 0
 DotSaid a b r = dotTold r ≡ dotOf a b
 
--- `Written` tells of what the buffer holds now
+-- `Written` tells as its value what the buffer holds now
 abbrev pub pointTold : PointResult → List Float → ResultBy Fault (List Float)
 pointTold Written held = value held
 pointTold (Untouched k) held = refused (faultOf k)

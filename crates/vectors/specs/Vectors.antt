@@ -19,11 +19,11 @@ abbrev pub allFinite : List Float → Bool
 allFinite [] = true
 allFinite (x ∷ xs) = finite x && allFinite xs
 
--- whether the element at i is a NaN or infinite
+-- whether the element at i is a NaN or infinite; true where there is no element, which no row looks at
 abbrev pub bad : List Float → ℕ → Bool
 bad xs i = not (finite (getD xs i nan))
 
--- 02, request 1, for 2: bad at i "in any supplied vector"; of two that are, neither is named
+-- 02, request 1, for 2: bad at i "in any supplied vector"; where both are, neither is named
 abbrev pub badInAny : List Float → List Float → ℕ → Bool
 badInAny xs ys i = bad xs i || bad ys i
 
@@ -37,10 +37,12 @@ abbrev pub leftSum : List Float → Float
 leftSum [] = 0ᶠ
 leftSum (p ∷ ps) = foldl _⊕_ p ps
 
--- the sum of the products from the first to the one at i: with i = 0, the first product
+-- the sum of the products from the first to the one at i, and to the last where i is beyond: at 0 the first product, at
+-- the last index the dot
 abbrev pub partialSum : List Float → ℕ → Float
 partialSum ps i = leftSum (take (suc i) ps)
 
+-- whether the partial sum at i is a NaN or infinite
 abbrev pub sumBad : List Float → ℕ → Bool
 sumBad ps i = not (finite (partialSum ps i))
 
