@@ -49,7 +49,7 @@ fn told(out: &mut [u8], at: usize, cases: u64, t: Told) -> Progress {
 fn begun(out: &mut [u8], at: usize, cases: u64, field: Field, body: &[u8]) -> Progress
     requires { ⌜ Short field ⌝ }
 {
-    let p = lines::head(out, at, cases);
+    let p = case_lines::head(out, at, cases);
     match field {
         Field::StartHagerZhang => told(out, p, cases, searches::hager_zhang(body)),
         Field::StartBacktracking => told(out, p, cases, searches::backtracks(body)),
@@ -75,7 +75,7 @@ fn served(out: &mut [u8], s: &[u8], progress: Progress, b: u64) -> Progress {
     }
     let p = searches::closed(out, progress.at, current);
     if let Field::Malformed = field {
-        return free(lines::malformed(out, p, b), progress.cases, true);
+        return free(case_lines::malformed(out, p, b), progress.cases, true);
     }
     begun(out, p, one_more(progress.cases), field, body)
 }

@@ -16,8 +16,8 @@ fn dot_line(out: &mut [u8], at: usize, a: &[f64], n: usize, b: &[f64], m: usize)
     requires { ⌜ (n ≤ length (now a)) × (m ≤ length (now b)) ⌝ }
 {
     match vectors::dot(&a[..n], &b[..m]) {
-        DotResult::Value(v) => lines::value(out, at, v),
-        DotResult::Refused(k) => lines::fault(out, at, k),
+        DotResult::Value(v) => case_lines::value(out, at, v),
+        DotResult::Refused(k) => case_lines::fault(out, at, k),
     }
 }
 
@@ -46,14 +46,14 @@ fn point_line(
 {
     match vectors::point(&x0[..n], alpha, &d[..m], &mut buffer[..k]) {
         PointResult::Written => text::word(out, at, b"POINT\n"),
-        PointResult::Untouched(k) => lines::fault(out, at, k),
+        PointResult::Untouched(k) => case_lines::fault(out, at, k),
     }
 }
 
 fn buffer_line(out: &mut [u8], at: usize, buffer: &[f64], k: usize) -> usize
     requires { ⌜ k ≤ length (now buffer) ⌝ }
 {
-    lines::buffer(out, at, &buffer[..k])
+    case_lines::buffer(out, at, &buffer[..k])
 }
 
 // The buffer is filled before the call, so that it shows what the call wrote.

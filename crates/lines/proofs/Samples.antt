@@ -3,9 +3,7 @@ use mathlib.Core.Path.{_≡_, refl}
 use lib.Ieee.{Float, binary64, ofBits, toBits}
 use Rattle.text.specs.Text.{bytes, decimalUpTo}
 use Rattle.runs.specs.Outcomes.{met, wolfe, approximate, stop, limit, refusal, asks, ends}
-use Rattle.vectors.specs.Faults.{alone, _at_}
 use Rattle.lines.specs.Lines.{outcomeLine}
-use Rattle.lines.specs.CaseLines.{faultLine}
 
 abbrev one : Float
 one = ofBits binary64 0x3ff0_0000_0000_0000
@@ -19,7 +17,5 @@ pub samples : (outcomeLine (asks (ofBits binary64 0)) 0 0 ≡ bytes "ASK 0000000
     × (outcomeLine (ends (stop met one)) 1 0 ≡ bytes "STOP met 3FF0000000000000 evaluations 1 iterations 0\n")
     × (outcomeLine (ends (limit one)) 103 100 ≡ bytes "LIMIT 3FF0000000000000 evaluations 103 iterations 100\n")
     × (outcomeLine (ends (refusal 8)) 7 2 ≡ bytes "REFUSED 8\n")
-    × (faultLine (alone 1) ≡ bytes "REFUSED 1\n")
-    × (faultLine (2 at 39) ≡ bytes "REFUSED 2 at 39\n")
 unfolding decimalUpTo ofBits toBits
-samples = (refl, refl, refl, refl, refl, refl, refl, refl, refl, refl)
+samples = (refl, refl, refl, refl, refl, refl, refl, refl)

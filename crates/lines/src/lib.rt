@@ -1,4 +1,4 @@
-// What the programs show, as lines of text: an outcome, a case's own lines, and the lines that close a search. Each
+// What the programs show of a search, as lines of text: an outcome, and the lines that close a search. Each
 // function writes into a lent buffer as those of the crate text do: at a place, as much as there is room for, and it
 // answers the place behind. docs/FORMATS.md has all lines; h stands there for a float's 64 bits in hex.
 
@@ -9,14 +9,11 @@ use runs::Evaluations;
 use runs::Iterations;
 use runs::Outcome;
 use runs::Verdict;
-use vectors::Refusal;
 ghost use mathlib.Core.List.{_++_};
 ghost use Rattle.runs.specs.Outcomes.{verdictWord, told};
 ghost use Rattle.text.specs.Text.{Writes, bytes};
 ghost use Rattle.hagerzhang.specs.Meaning.{lastOf, report};
 ghost use Rattle.lines.specs.Lines.{verdictText, countsText, stopLine, limitLine, refusedLine, outcomeLine};
-ghost use Rattle.vectors.specs.Told.{faultOf};
-ghost use Rattle.lines.specs.CaseLines.{headLine, malformedLine, valueLine, refusedAtLine, faultLine, bufferLine};
 ghost use Rattle.lines.specs.Closing.{noBracketText, closingText};
 
 // ---- an outcome: ASK, STOP, LIMIT or REFUSED
@@ -76,57 +73,6 @@ pub fn outcome(out: &mut [u8], at: usize, o: Outcome, e: Evaluations, i: Iterati
         Outcome::Limit(x) => limit(out, at, x, e, i),
         Outcome::Refused(k) => refused(out, at, k.number()),
     }
-}
-
-// ---- a case's own lines
-
-// `CASE k`, the head of the case with number k.
-pub fn head(out: &mut [u8], at: usize, k: u64) -> usize
-    ensures { λ r. ⌜ Writes (now (out .entry)) at (headLine k) (now (out .exit)) r ⌝ }
-{
-    text::number_line(out, at, b"CASE ", k)
-}
-
-// `MALFORMED at b`, of a field that began at byte b.
-pub fn malformed(out: &mut [u8], at: usize, b: u64) -> usize
-    ensures { λ r. ⌜ Writes (now (out .entry)) at (malformedLine b) (now (out .exit)) r ⌝ }
-{
-    text::number_line(out, at, b"MALFORMED at ", b)
-}
-
-// `VALUE h`, of a dot.
-pub fn value(out: &mut [u8], at: usize, x: f64) -> usize
-    ensures { λ r. ⌜ Writes (now (out .entry)) at (valueLine x) (now (out .exit)) r ⌝ }
-{
-    text::floats_line(out, at, b"VALUE", &[x])
-}
-
-// `REFUSED n at i`, with an index.
-fn refused_at(out: &mut [u8], at: usize, n: u32, i: usize) -> usize
-    ensures { λ r. ⌜ Writes (now (out .entry)) at (refusedAtLine n i) (now (out .exit)) r ⌝ }
-{
-    let p = text::word(out, at, b"REFUSED ");
-    let q = text::decimal(out, p, n as u64);
-    text::number_line(out, q, b" at ", i as u64)
-}
-
-// `REFUSED 1`, `REFUSED 2 at i` or `REFUSED 4 at i`, of a dot or a point.
-pub fn fault(out: &mut [u8], at: usize, k: Refusal) -> usize
-    ensures { λ r. ⌜ Writes (now (out .entry)) at (faultLine (faultOf k)) (now (out .exit)) r ⌝ }
-{
-    let n = k.number();
-    match k {
-        Refusal::Lengths => refused(out, at, n),
-        Refusal::SuppliedNotFinite(i) => refused_at(out, at, n, i),
-        Refusal::ResultNotFinite(i) => refused_at(out, at, n, i),
-    }
-}
-
-// `OUT h ..`, the numbers that a point's buffer holds.
-pub fn buffer(out: &mut [u8], at: usize, xs: &[f64]) -> usize
-    ensures { λ r. ⌜ Writes (now (out .entry)) at (bufferLine (now (xs .entry))) (now (out .exit)) r ⌝ }
-{
-    text::floats_line(out, at, b"OUT", xs)
 }
 
 // ---- the three lines that close a search: its bracket, its best and its counts

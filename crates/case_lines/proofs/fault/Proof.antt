@@ -1,7 +1,7 @@
--- `lines::fault` meets its contract. Assumes nothing.
+-- `case_lines::fault` meets its contract. Assumes nothing.
 use borrow.Author.Needs.{needs}
-use Rattle.lines.proofs.fault.Statement.{statement}
-use Rattle.lines.proofs.fault.Tie as tie
+use Rattle.case_lines.proofs.fault.Statement.{statement}
+use Rattle.case_lines.proofs.fault.Tie as tie
 
 returns : tie.Need-returns
 returns c =

@@ -1,9 +1,9 @@
--- `lines::refused_at` meets its contract. Assumes nothing.
+-- `case_lines::refused_at` meets its contract. Assumes nothing.
 use borrow.Author.Needs.{needs}
 use Rattle.text.proofs.Writing.{then}
 use mathlib.Core.List.{append-assoc}
-use Rattle.lines.proofs.refused_at.Statement.{statement}
-use Rattle.lines.proofs.refused_at.Tie as tie
+use Rattle.case_lines.proofs.refused_at.Statement.{statement}
+use Rattle.case_lines.proofs.refused_at.Tie as tie
 
 pub refused-at-spec : {M : Type 1} → statement M
 refused-at-spec =
