@@ -36,13 +36,16 @@ def not_finite():
                 broken = with_(n, at, bad)
                 cases += [dot(broken, twos), dot(twos, broken)]
                 cases += [point(broken, HALF, twos, n), point(twos, HALF, broken, n)]
-    return cases
+    ones = [ONE] * 256
+    first, middle, last = [with_(256, at, bad) for at, bad in zip(places(256), NOT_FINITE)]
+    cases += [dot(ones, first), dot(middle, ones), dot(last, ones), dot(ones, last)]
+    return cases + [point(ones, HALF, middle, 256), point(last, HALF, ones, 256)]
 
 
 def at_once():
     """Both vectors bad, at the same place and at two, the lower one in either; and alpha, alone and beside them."""
     cases = []
-    for n in (2, 3, 40):
+    for n in (1, 2, 3, 40):
         good = [ONE] * n
         for alpha in NOT_FINITE:
             cases += [point(good, alpha, [TWO] * n, n), point(good, alpha, [0] * n, n)]
