@@ -7,7 +7,7 @@ ghost use mathlib.Core.Path.{_≡_};
 ghost use Rattle.hagerzhang_rules.specs.Parameters.{defaultOptions, paramsFinite, suppliedFinite, inRanges};
 
 // 01: "delta 0.1, sigma 0.9 .. epsilon 1e-6 .. theta 0.5, gamma 0.66 .. eta 0.01 .. Bounds 2^-52 and 1e5 .. Start step
-// c: 1"; B and N: "(default 100)".
+// c: 1"; B and N: "(default 100)". 02, request 2, of the upper bound: "The default becomes 64."
 pub fn defaults() -> Options
     ensures { λ r. ⌜ r ≡ defaultOptions ⌝ }
 {
@@ -20,7 +20,7 @@ pub fn defaults() -> Options
             gamma: 0.66,
             eta: 0.01,
             min: EPS,
-            max: 1e5,
+            max: 64.0,
             start: 1.0,
         },
         budget: 100,

@@ -28,7 +28,7 @@ use Rattle.hagerzhang_rules.specs.Rules.{update, iteration}
 -- "epsilon = 0, L = 1, theta = 0.5, a = (0,1,-2), b = (4,9,6) unless said." The start has cost 1 and slope -2; B is the
 -- budget.
 abbrev pub options : ℕ → Options
-options B = let q = defaultOptions .params in optionsWith (whole 0) (q .min) (q .max) (q .start) B 100
+options B = let q = defaultOptions .params in optionsWith defaultOptions (whole 0) (q .min) (q .max) (q .start) B 100
 
 abbrev pub setup : ℕ → Setup
 setup B = record { options = options B; f0 = whole 1; s0 = minus (whole 2); level = whole 1 }

@@ -14,7 +14,7 @@ use Rattle.hagerzhang_rules.specs.declared.Options.{Options}
 use Rattle.hagerzhang_rules.specs.declared.Setup.{Setup}
 
 -- "delta 0.1, sigma 0.9 .. epsilon 1e-6 .. theta 0.5, gamma 0.66 .. eta 0.01 .. Bounds 2^-52 and 1e5 .. Start step c:
--- 1"; the budget B and the limit N are 100
+-- 1"; the budget B and the limit N are 100. 02, request 2, of the upper bound: "The default becomes 64."
 abbrev pub defaultOptions : Options
 defaultOptions = record {
   params = record {
@@ -25,23 +25,23 @@ defaultOptions = record {
     gamma = ofBits binary64 0x3fe5_1eb8_51eb_851f;
     eta = ofBits binary64 0x3f84_7ae1_47ae_147b;
     min = ofBits binary64 0x3cb0_0000_0000_0000;
-    max = ofBits binary64 0x40f8_6a00_0000_0000;
+    max = ofBits binary64 0x4050_0000_0000_0000;
     start = 1ᶠ;
   };
   budget = 100;
   limit = 100;
 }
 
--- with another epsilon, other bounds, another start step, B and N: what a job can say
-abbrev pub optionsWith : Float → Float → Float → Float → ℕ → ℕ → Options
-optionsWith epsilon min max start B N = record {
+-- the options d with another epsilon, other bounds, another start step, B and N: what a job can say
+abbrev pub optionsWith : Options → Float → Float → Float → Float → ℕ → ℕ → Options
+optionsWith d epsilon min max start B N = record {
   params = record {
-    delta = defaultOptions .params .delta;
-    sigma = defaultOptions .params .sigma;
+    delta = d .params .delta;
+    sigma = d .params .sigma;
     epsilon = epsilon;
-    theta = defaultOptions .params .theta;
-    gamma = defaultOptions .params .gamma;
-    eta = defaultOptions .params .eta;
+    theta = d .params .theta;
+    gamma = d .params .gamma;
+    eta = d .params .eta;
     min = min;
     max = max;
     start = start;

@@ -1,6 +1,7 @@
 -- The reader reads 01's format, no less and no more. Bytes that hold fields in 01's form which say a job are read as it
 -- (`job-read`); whatever is read as a job is such bytes (`read-is-format`); and any others are refused by 9
--- (`no-job-refused`). The longest job has 55 bytes (`longest`). Assumes nothing.
+-- (`no-job-refused`). The defaults say what an absent field says, and not what a job is (`no-job-by-any`). The longest
+-- job has 55 bytes (`longest`). Assumes nothing.
 use mathlib.Core.Path.{_≡_, refl, sym, ap, ap₂, _∙_, subst}
 use mathlib.Core.Bool.{Bool, true, false, cond}
 use mathlib.Core.List.{List, [], _∷_, _++_}
@@ -13,18 +14,19 @@ use borrow.Author.Tests.{eq-eqb, ne-eqb, eqb-true, eqb-false}
 use Rattle.refusals.specs.Results.{Result, value, refused}
 use Rattle.refusals.proofs.Refusals.{refused-not-value}
 use Rattle.hagerzhang_rules.specs.declared.Options.{Options}
+use Rattle.hagerzhang_rules.specs.Parameters.{defaultOptions}
 use Rattle.fields.specs.Fields.{Field, written, headOf, bodyOf, endOf}
 use Rattle.fields.proofs.Heads.{end-there, body-length}
 use Rattle.fields.proofs.BothWays.{head-written, body-written, rest-written, low-byte, written-back}
 use Rattle.jobs.specs.declared.Job.{Job}
-use Rattle.jobs.specs.Format.{sizeOf, WellFormed, nothing, field, bodyUnder, optionsOf, decoded, meansOf}
-use Rattle.jobs.specs.Reader.{stands, found, behind, jobOf}
+use Rattle.jobs.specs.Format.{sizeOf, WellFormed, nothing, field, bodyUnder, optionsOf, decoded, meansBy, meansOf}
+use Rattle.jobs.specs.Reader.{stands, found, behind, jobBy, jobOf}
 use Rattle.jobs.proofs.Parts.{its-head}
 
 -- ---- a written field is found, and no other
 
 module _ (f : Field) (s : List ℕ) where
-  stands-written : stands (f .tag) (length (f .body)) (written f ++ s) ≡ true
+  pub stands-written : stands (f .tag) (length (f .body)) (written f ++ s) ≡ true
   unfolding stands
   stands-written =
       let n = length (f .body) in
@@ -39,18 +41,18 @@ module _ (f : Field) (s : List ℕ) where
   behind-written = rw (stands-written, rest-written f s)
 
   -- a field with another tag is not this one
-  not-stands : (k n : ℕ) → eqb (f .tag) k ≡ false → stands k n (written f ++ s) ≡ false
+  pub not-stands : (k n : ℕ) → eqb (f .tag) k ≡ false → stands k n (written f ++ s) ≡ false
   unfolding stands
   not-stands k n h = rw (head-written f s, h)
 
 -- ---- fields with tags above t hold no body of a tag up to t
-absent : {t : ℕ} {fs : List Field} {s : List ℕ} → WellFormed t fs s → (m : ℕ) → m ≤ t → bodyUnder m fs ≡ none
+pub absent : {t : ℕ} {fs : List Field} {s : List ℕ} → WellFormed t fs s → (m : ℕ) → m ≤ t → bodyUnder m fs ≡ none
 unfolding bodyUnder
 absent nothing m h = refl
 absent (field {f = f} above known more) m h =
     rw (ne-eqb (f .tag) m (λ (e : f .tag ≡ m). omega arith)) (absent more m (omega arith))
 
-same-size : (m k n l : ℕ) → m ≡ k → sizeOf m ≡ some l → sizeOf k ≡ some n → l ≡ n
+pub same-size : (m k n l : ℕ) → m ≡ k → sizeOf m ≡ some l → sizeOf k ≡ some n → l ≡ n
 same-size m k n l e p q = cc
 
 -- ---- one tag after the other: what the reader finds at the tag k is what the fields hold, and what is behind it holds
@@ -137,10 +139,10 @@ none-left : (fs : List Field) (s : List ℕ) → WellFormed 6 fs s → length s 
 none-left [] [] nothing = refl
 none-left (f ∷ fs) s (field above size more) = absurd (unknown (f .tag) (length (f .body)) above size)
 
--- bytes that hold fields in 01's form are read as what these say
-pub format-is-read : (fs : List Field) (s : List ℕ) → WellFormed 0 fs s → jobOf s ≡ meansOf fs
+-- bytes that hold fields in 01's form are read as what these say, whatever the defaults are
+pub format-is-read : (d : Options) (fs : List Field) (s : List ℕ) → WellFormed 0 fs s → jobBy d s ≡ meansBy d fs
 unfolding sizeOf
-format-is-read fs s h =
+format-is-read d fs s h =
     let p1 = step 0 1 1 refl refl fs s (record { fields = fs; holds = h; same = λ m l. refl }) in
     let p2 = step 1 2 16 refl refl fs _ (p1 .1) in
     let p3 = step 2 3 8 refl refl fs _ (p2 .1) in
@@ -183,14 +185,14 @@ at-the-end (x ∷ s) h = absurd (omega arith)
 abbrev left : List ℕ → List ℕ
 left s = behind 6 2 (behind 5 2 (behind 4 8 (behind 3 8 (behind 2 16 (behind 1 1 s)))))
 
-abbrev whole : List ℕ → Result Job
-whole s1 =
+abbrev whole : Options → List ℕ → Result Job
+whole d s1 =
     let s2 = behind 1 1 s1 in
     let s3 = behind 2 16 s2 in
     let s4 = behind 3 8 s3 in
     let s5 = behind 4 8 s4 in
     let s6 = behind 5 2 s5 in
-    decoded (found 1 1 s1) (optionsOf (found 2 16 s2) (found 3 8 s3) (found 4 8 s4) (found 5 2 s5) (found 6 2 s6))
+    decoded (found 1 1 s1) (optionsOf d (found 2 16 s2) (found 3 8 s3) (found 4 8 s4) (found 5 2 s5) (found 6 2 s6))
 
 formed : (s : List ℕ) → length (left s) ≡ 0 → Formed 0 s
 unfolding sizeOf
@@ -213,19 +215,20 @@ is-read true a j e = refl
 is-read false a j e = absurd (refused-not-value 9 j e)
 
 nothing-left : (s : List ℕ) (j : Job) → jobOf s ≡ value j → length (left s) ≡ 0
-nothing-left s j e = eqb-true (length (left s)) 0 (is-read (eqb (length (left s)) 0) (whole s) j e)
+nothing-left s j e = eqb-true (length (left s)) 0 (is-read (eqb (length (left s)) 0) (whole defaultOptions s) j e)
 
 -- ---- 01's row 9, "the job is malformed", by the format: a job is what the fields say that the bytes hold
 
 -- bytes that hold such fields are read as it
 pub job-read : (s : List ℕ) (fs : List Field) (j : Job) → WellFormed 0 fs s → meansOf fs ≡ value j → jobOf s ≡ value j
-job-read s fs j h means = format-is-read fs s h ∙ means
+job-read s fs j h means = format-is-read defaultOptions fs s h ∙ means
 
 -- whatever is read as a job is such bytes
 pub read-is-format : (s : List ℕ) (j : Job) → jobOf s ≡ value j → Encodes s j
 read-is-format s j e =
     let f = formed s (nothing-left s j e) in
-    record { fields = f .fields; holds = f .holds; means = sym (format-is-read (f .fields) s (f .holds)) ∙ e }
+    let same = format-is-read defaultOptions (f .fields) s (f .holds) in
+    record { fields = f .fields; holds = f .holds; means = sym same ∙ e }
 
 -- and any others are refused by 9
 value-or-nine : (b : Bool) (body : Option (List ℕ)) (o : Options)
@@ -244,6 +247,17 @@ refused-otherwise s never =
 pub no-job-refused : (s : List ℕ) → ((fs : List Field) (j : Job) → WellFormed 0 fs s → meansOf fs ≡ value j → ⊥)
     → jobOf s ≡ refused 9
 no-job-refused s never = refused-otherwise s (λ j e. never (e .fields) j (e .holds) (e .means))
+
+-- what is no job by some defaults is none by any
+no-decoding : (b : Bool) (body : Option (List ℕ)) (o p : Options) → cond b (decoded body o) (refused 9) ≡ refused 9
+    → cond b (decoded body p) (refused 9) ≡ refused 9
+unfolding decoded
+no-decoding true (some body) o p e = absurd (refused-not-value 9 _ (sym e))
+no-decoding true none o p e = refl
+no-decoding false body o p e = refl
+
+pub no-job-by-any : (d e : Options) (s : List ℕ) → jobBy d s ≡ refused 9 → jobBy e s ≡ refused 9
+no-job-by-any d e s h = no-decoding (eqb (length (left s)) 0) (found 1 1 s) _ _ h
 
 -- ---- "1 curve (1 byte, required), 2 bounds (16), 3 start step (8), 4 epsilon (8), 5 B (2), 6 N (2)", each behind
 -- three bytes: at most 55

@@ -48,21 +48,24 @@ said says (some body) other = says body
 abbrev pub floatIn : ℕ → List ℕ → Float
 floatIn skip body = floatOf (drop skip body)
 
--- what the bodies of the tags 2 to 6 say; what is absent has its default
-unfoldable pub optionsOf : Option (List ℕ) → Option (List ℕ) → Option (List ℕ) → Option (List ℕ) → Option (List ℕ)
-    → Options
-optionsOf bounds start epsilon budget limit =
-    let q = defaultOptions .params in
-    optionsWith (said floatOf epsilon (q .epsilon)) (said floatOf bounds (q .min)) (said (floatIn 8) bounds (q .max))
-    (said floatOf start (q .start)) (said pairOf budget (defaultOptions .budget))
-    (said pairOf limit (defaultOptions .limit))
+-- what the bodies of the tags 2 to 6 say; what is absent has its default, of the defaults d
+unfoldable pub optionsOf : Options → Option (List ℕ) → Option (List ℕ) → Option (List ℕ) → Option (List ℕ)
+    → Option (List ℕ) → Options
+optionsOf d bounds start epsilon budget limit =
+    let q = d .params in
+    optionsWith d (said floatOf epsilon (q .epsilon)) (said floatOf bounds (q .min)) (said (floatIn 8) bounds (q .max))
+    (said floatOf start (q .start)) (said pairOf budget (d .budget)) (said pairOf limit (d .limit))
 
 -- with tag 1: "missing tag 1 is refusal 9"
 unfoldable pub decoded : Option (List ℕ) → Options → Result Job
 decoded none options = refused 9
 decoded (some body) options = value (record { curve = byteAt body 0; options = options })
 
-abbrev pub meansOf : List Field → Result Job
-meansOf fs =
+-- what fields say where d are the defaults
+abbrev pub meansBy : Options → List Field → Result Job
+meansBy d fs =
     decoded (bodyUnder 1 fs)
-    (optionsOf (bodyUnder 2 fs) (bodyUnder 3 fs) (bodyUnder 4 fs) (bodyUnder 5 fs) (bodyUnder 6 fs))
+    (optionsOf d (bodyUnder 2 fs) (bodyUnder 3 fs) (bodyUnder 4 fs) (bodyUnder 5 fs) (bodyUnder 6 fs))
+
+abbrev pub meansOf : List Field → Result Job
+meansOf fs = meansBy defaultOptions fs

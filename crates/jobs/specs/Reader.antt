@@ -9,6 +9,7 @@ use lib.Dec.{eqb}
 use lib.ListN.{length, drop}
 use Rattle.refusals.specs.Results.{Result, value, refused}
 use Rattle.hagerzhang_rules.specs.declared.Options.{Options}
+use Rattle.hagerzhang_rules.specs.Parameters.{defaultOptions}
 use Rattle.fields.specs.declared.Heading.{Heading}
 use Rattle.fields.specs.declared.Heading.the-variants.{Tagged, Cut}
 use Rattle.fields.specs.Fields.{headOf, bodyOf, endOf}
@@ -35,24 +36,27 @@ behind tag n s = cond (stands tag n s) (drop (endOf s) s) s
 -- what the fields 2 to 6 say, each looked for at its place
 abbrev pub optionsAt : List ℕ → ℕ → ℕ → ℕ → ℕ → ℕ → Options
 optionsAt s bounds start epsilon budget limit =
-    optionsOf
+    optionsOf defaultOptions
     (found 2 16 (drop bounds s))
     (found 3 8 (drop start s))
     (found 4 8 (drop epsilon s))
     (found 5 2 (drop budget s))
     (found 6 2 (drop limit s))
 
--- 9: "the job is malformed", where something is left, or the curve is missing
-abbrev pub jobOf : List ℕ → Result Job
-jobOf s1 =
+-- 9: "the job is malformed", where something is left, or the curve is missing; d are the defaults
+abbrev pub jobBy : Options → List ℕ → Result Job
+jobBy d s1 =
     let s2 = behind 1 1 s1 in
     let s3 = behind 2 16 s2 in
     let s4 = behind 3 8 s3 in
     let s5 = behind 4 8 s4 in
     let s6 = behind 5 2 s5 in
     cond (eqb (length (behind 6 2 s6)) 0)
-    (decoded (found 1 1 s1) (optionsOf (found 2 16 s2) (found 3 8 s3) (found 4 8 s4) (found 5 2 s5) (found 6 2 s6)))
+    (decoded (found 1 1 s1) (optionsOf d (found 2 16 s2) (found 3 8 s3) (found 4 8 s4) (found 5 2 s5) (found 6 2 s6)))
     (refused 9)
+
+abbrev pub jobOf : List ℕ → Result Job
+jobOf s = jobBy defaultOptions s
 
 -- what each case of the answer tells
 abbrev pub readTold : Reading → Result Job

@@ -1,0 +1,2 @@
+pub mod OldBounds
+pub mod Kept
