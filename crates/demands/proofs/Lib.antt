@@ -10,4 +10,5 @@ pub mod Trials
 pub mod EmptyPrograms
 pub mod Backtracking
 pub mod Determined
+pub mod StoredJobs
 pub mod Reached

@@ -4,4 +4,5 @@ pub mod Demand2
 pub mod Demand3
 pub mod Backtracking
 pub mod Determined
+pub mod StoredJobs
 pub mod Reached

@@ -25,8 +25,8 @@ use Rattle.jobs.specs.Reader.{stands, jobBy, jobOf}
 use Rattle.jobs.proofs.Parts.{within}
 use Rattle.jobs.proofs.InOrder.{no-curve}
 use Rattle.jobs.proofs.BothWays as jobs
-use Rattle.stored_jobs.specs.OldBounds.{oldDefaults, oldBounds, withBounds, bytesOf}
-use Rattle.stored_jobs.specs.Kept.{isJob, relies, keptOf}
+use Rattle.stored_jobs.specs.OldBounds.{oldDefaults, oldBounds, withBounds, bytesOf, isJob}
+use Rattle.stored_jobs.specs.Kept.{relies, keptOf}
 use Rattle.stored_jobs.proofs.Fields.{bytes-of, Placed, placed, says}
 
 -- ---- by the places of the bytes: a curve's field f, whose body is one byte, and what is behind it

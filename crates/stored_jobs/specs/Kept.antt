@@ -1,21 +1,14 @@
 -- What becomes of any bytes, by the places of the bytes. That these are the fields of a stored job with the old bounds
 -- at their place, and that all else is as it was, is proved in proofs/Kept.antt.
 use Prim.Native.Nat.{ℕ}
-use mathlib.Core.Bool.{Bool, true, false, cond, not, _&&_}
+use mathlib.Core.Bool.{Bool, cond, not, _&&_}
 use mathlib.Core.List.{List, _++_}
 use lib.Dec.{eqb}
 use lib.ListN.{take, drop}
-use Rattle.refusals.specs.Results.{Result, value, refused}
 use Rattle.wire.specs.Wire.{byteAt}
 use Rattle.fields.specs.Fields.{written}
-use Rattle.jobs.specs.declared.Job.{Job}
 use Rattle.jobs.specs.Reader.{jobOf}
-use Rattle.stored_jobs.specs.OldBounds.{oldBounds}
-
--- whether there is a job
-abbrev pub isJob : Result Job → Bool
-isJob (value j) = true
-isJob (refused n) = false
+use Rattle.stored_jobs.specs.OldBounds.{oldBounds, isJob}
 
 -- a job that has no field 2: one would stand behind the curve's four bytes
 unfoldable pub relies : List ℕ → Bool

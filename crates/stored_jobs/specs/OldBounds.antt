@@ -1,13 +1,15 @@
 -- 02, request 2: "The default becomes 64. Jobs without tag 2 relied on the old number. Our stored jobs get a field 2
 -- written with the old bounds". What the old defaults were, and which fields a stored job gets.
 use Prim.Native.Nat.{ℕ}
-use mathlib.Core.Bool.{cond}
+use mathlib.Core.Bool.{Bool, true, false, cond}
 use mathlib.Core.List.{List, [], _∷_, _++_}
 use lib.Dec.{eqb, ltb}
 use lib.Ieee.{binary64, ofBits}
+use Rattle.refusals.specs.Results.{Result, value, refused}
 use Rattle.fields.specs.Fields.{Field, written}
 use Rattle.hagerzhang_rules.specs.declared.Options.{Options}
 use Rattle.hagerzhang_rules.specs.Parameters.{defaultOptions, optionsWith}
+use Rattle.jobs.specs.declared.Job.{Job}
 
 -- the defaults as 01 has them: "Bounds 2^-52 and 1e5", and the others as they still are
 abbrev pub oldDefaults : Options
@@ -34,3 +36,8 @@ withBounds (f ∷ fs) =
 abbrev pub bytesOf : List Field → List ℕ
 bytesOf [] = []
 bytesOf (f ∷ fs) = written f ++ bytesOf fs
+
+-- whether bytes that are read so are a job
+abbrev pub isJob : Result Job → Bool
+isJob (value j) = true
+isJob (refused n) = false

@@ -2,7 +2,8 @@
 use mathlib.Core.Path.{_≡_, sym, ap, _∙_}
 use borrow.Author.Needs.{needs}
 use Rattle.jobs.specs.Reader.{readTold}
-use Rattle.stored_jobs.specs.Kept.{isJob, relies}
+use Rattle.stored_jobs.specs.OldBounds.{isJob}
+use Rattle.stored_jobs.specs.Kept.{relies}
 use Rattle.stored_jobs.proofs.relies.Statement.{statement}
 use Rattle.stored_jobs.proofs.relies.Tie as tie
 

@@ -1,6 +1,7 @@
 -- `stored_jobs::with_bounds` meets its contract. Assumes nothing.
 use mathlib.Core.Path.{_≡_, sym, _∙_}
 use mathlib.Core.Bool.{true}
+use native.Mathlib.Omega.{arith}
 use lib.Seq.{length-take-le}
 use denote.Ref.{now}
 use borrow.Author.Needs.{needs}
@@ -16,7 +17,7 @@ relied c = sym (c .before .relies .ensures) ∙ c .if1 .taken
 slice-aggregate-word : tie.Need-slice-aggregate-word
 slice-aggregate-word c =
     let s = now (c .before .before .before .before .before .before .args .job) in
-    sym (length-take-le 4 s (four-bytes s (relied (c .before .before))))
+    sym (length-take-le _ s (omega (arith, four-bytes s (relied (c .before .before)))))
 
 returns : tie.Need-returns
 unfolding keptOf

@@ -1,0 +1,20 @@
+-- 02, request 2, of stored jobs: `stored-jobs`. What is written is shown in stored_jobs/proofs/Kept.antt; that the whole
+-- text of a job stays follows, since the text is worked out from what the job says. Assumes nothing.
+use mathlib.Core.Path.{ap}
+use Rattle.jobs.proofs.BothWays.{no-job-refused}
+use Rattle.stored_jobs.proofs.Kept as kept
+use Rattle.play.specs.Output.{jobText}
+use Rattle.demands.specs.StoredJobs.{StoredJobs}
+
+pub stored-jobs : StoredJobs
+stored-jobs = record {
+  job-kept = kept.job-kept;
+  bounds-stay = kept.bounds-stay;
+  no-job-stays = λ s never. kept.no-job-stays s (no-job-refused s never);
+  job-exactly = kept.kept-is-job;
+  says = kept.kept-says;
+  output = λ s. ap jobText (kept.kept-says s);
+  once = kept.kept-once;
+  front-decides = kept.front-decides;
+  fits = kept.fits;
+}
