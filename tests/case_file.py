@@ -2,6 +2,7 @@
 import struct
 
 from model_cases import ANSWER, BACKTRACKING, DOT, HAGER_ZHANG, POINT, search_of
+from exact import F
 from model_hagerzhang import DEFAULTS, NAMES
 
 ANSWER_SIZE = 19
@@ -15,9 +16,10 @@ def words(*w):
     return struct.pack(">%dQ" % len(w), *w)
 
 
-def params(**changed):
-    """Hager-Zhang's parameters: the defaults, but for those that are named."""
-    return [changed.get(name, default) for name, default in zip(NAMES, DEFAULTS)]
+def params(high=F(1e5), **changed):
+    """Hager-Zhang's parameters: the defaults, but for those that are named. A case has every one written out, and the
+    cases were made when the default of high was 1e5."""
+    return [dict(changed, high=high).get(name, default) for name, default in zip(NAMES, DEFAULTS)]
 
 
 def hager_zhang(params, f0, s0, b, n):

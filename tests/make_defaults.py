@@ -3,7 +3,7 @@
 
 usage: make_defaults.py FILE
 
-The defaults stand here in 01's decimals. Each is formed exactly, as a fraction, and rounded once (exact.py). Nothing of
+The defaults stand here in the decimals of 01 and 02. Each is formed exactly, as a fraction, and rounded once (exact.py). Nothing of
 the program under test is used.
 """
 import sys
@@ -22,7 +22,8 @@ HAGER_ZHANG = {
     "gamma": "0.66",
     "eta": "0.01",
     "min": Fraction(1, 2**52),
-    "max": "1e5",
+    # 02, request 2: "The default becomes 64."
+    "max": "64",
     "start": "1",
 }
 BACKTRACKING = {"rho": "0.9", "alpha": "1"}

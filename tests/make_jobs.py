@@ -5,6 +5,9 @@ usage: make_jobs.py FOLDER
 
 FOLDER gets NAME.job and NAME.out. What must be written is worked out from the rules alone, by the models on the floats
 of exact.py. Nothing of the program under test is used.
+
+FOLDER/old gets NAME.job as it was before 02's request 2, where that job relied on the old default of max. Its NAME.job
+in FOLDER has the old bounds written out. Its NAME.out is what the old job tells with the old default.
 """
 import os
 import struct
@@ -15,6 +18,7 @@ from exact import HALF, INF, MAX, NAN, ONE, SIGN, TINY, ZERO, F
 from model_curves import NUMBERS
 from model_jobs import BOUNDS, BUDGET, CURVE, EPSILON, ITERATIONS, START, lines_of
 from model_lines import printed
+from model_stored import OLD_DEFAULTS, kept
 
 FOUR = F(4)
 
@@ -33,7 +37,8 @@ def job(k, low=None, high=None, first=None, epsilon=None, b=None, n=None):
     return out
 
 
-def stored():
+def before():
+    """The jobs that were stored before request 2, as they were."""
     sample = job(1, ZERO, FOUR)
     whole = job(1, ZERO, FOUR, HALF, F(1e-3), 7, 9)
     jobs = {
@@ -108,16 +113,44 @@ def stored():
     return jobs
 
 
+def since():
+    """Those that came with request 2: they have no field 2, so the new default shows."""
+    jobs = {f"default_curve_{k}": job(k) for k in NUMBERS}
+    jobs.update({
+        "default_start": job(5, first=F(2)),
+        "default_start_outside": job(7, first=F(65)),
+        "default_epsilon": job(6, epsilon=F(2)),
+        "default_budget": job(8, first=HALF, b=1),
+        "default_limit": job(5, first=F(3), n=1),
+        "default_every_other_field": job(2, first=F(7), epsilon=ZERO, b=1000, n=3),
+    })
+    return jobs
+
+
+def stored():
+    """The jobs as they are stored now."""
+    return dict({name: kept(job) for name, job in before().items()}, **since())
+
+
 def main(folder):
-    seen = set()
+    old, seen = before(), set()
+    os.makedirs(os.path.join(folder, "old"), exist_ok=True)
     for name, job in stored().items():
         lines = list(lines_of(job))
+        relied = name in old and old[name] != job
+        # "a test shows that their output is unchanged"
+        assert name not in old or lines == list(lines_of(old[name], OLD_DEFAULTS)), name
+        assert name in old or "ASK 4050000000000000" in lines, name
         seen.add(" ".join(lines[-1].split()[:2]) if lines[-1][0] in "SR" else "LIMIT")
-        for end, what in ((".job", job), (".out", printed(lines))):
-            with open(os.path.join(folder, name + end), "wb") as f:
+        files = {name + ".job": job, name + ".out": printed(lines)}
+        if relied:
+            files[os.path.join("old", name + ".job")] = old[name]
+        for path, what in files.items():
+            with open(os.path.join(folder, path), "wb") as f:
                 f.write(what)
     assert seen == {"STOP wolfe", "STOP approximate", "LIMIT"} | {f"REFUSED {n}" for n in (2, 3, 4, 5, 6, 7, 9)}, seen
-    print("%d jobs" % len(stored()))
+    print("%d jobs, %d of them with the old bounds written out" % (
+        len(stored()), sum(kept(job) != job for job in old.values())))
 
 
 if __name__ == "__main__":

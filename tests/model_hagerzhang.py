@@ -3,7 +3,8 @@ from exact import HALF, ONE, TWO, ZERO, F, absolute, add, div, is_finite, le, lt
 
 EPS = 0x3CB0000000000000
 NAMES = "delta sigma epsilon theta gamma eta low high first".split()
-DEFAULTS = [F(0.1), F(0.9), F(1e-6), HALF, F(0.66), F(0.01), EPS, F(1e5), ONE]
+# 01's; of high 02, request 2: "The default becomes 64."
+DEFAULTS = [F(0.1), F(0.9), F(1e-6), HALF, F(0.66), F(0.01), EPS, F(64), ONE]
 
 
 def secant(p, q):

@@ -26,22 +26,22 @@ def fields_of(job):
     return fields if CURVE in fields else None
 
 
-def parameters(fields):
-    """Those of the search, the defaults where a field is absent; B; N."""
+def parameters(fields, defaults):
+    """Those of the search, the default where a field is absent; B; N."""
     floats = lambda tag, default: list(struct.unpack(f">{SIZES[tag] // 8}Q", fields[tag])) if tag in fields else default
     number = lambda tag: int.from_bytes(fields[tag], "big") if tag in fields else 100
-    params = DEFAULTS[:2] + floats(EPSILON, DEFAULTS[2:3]) + DEFAULTS[3:6]
-    params += floats(BOUNDS, DEFAULTS[6:8]) + floats(START, DEFAULTS[8:])
+    params = defaults[:2] + floats(EPSILON, defaults[2:3]) + defaults[3:6]
+    params += floats(BOUNDS, defaults[6:8]) + floats(START, defaults[8:])
     return params, number(BUDGET), number(ITERATIONS)
 
 
-def lines_of(job):
+def lines_of(job, defaults=DEFAULTS):
     """The lines that belong to a job, one after the other."""
     fields = fields_of(job)
     if fields is None:
         yield "REFUSED 9"
         return
-    params, b, n = parameters(fields)
+    params, b, n = parameters(fields, defaults)
     k = fields[CURVE][0]
     if k not in NUMBERS:
         yield "REFUSED %d" % (3 if all(map(is_finite, params)) else 2)
