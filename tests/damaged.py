@@ -1,16 +1,16 @@
 #!/usr/bin/env python3
 """Feeds damaged input to a program: every prefix, every change of one byte and many random edits of valid files.
 
-usage: damaged.py cases|search PROGRAM [--quick|--few]
+usage: damaged.py cases|search|keep_bounds PROGRAM [--quick|--few]
 
 PROGRAM is built first where it is this project's bin/NAME or target/bin/NAME; any other one is taken as it is.
 Quick, it tries four other values of each byte instead of all 255, and fewer edits. Few, it tries every fifth of those;
 that is for an emulator, under which a start of the program costs more than its run.
 
-Each input must be answered within the time limit, with exit status 0 and output whose every line is of the known kinds.
-It is also compared with what the independent models say must be printed: for cases model_cases.py, for search (jobs)
-model_jobs.py, which is stopped after some hundred steps. Prints how many inputs there were, and ends with status 1 at
-the first that is not answered so.
+Each input must be answered within the time limit, with exit status 0 and, but for keep_bounds, output whose every line
+is of the known kinds. It is also compared with what the independent models say must be printed: for cases
+model_cases.py, for search (jobs) model_jobs.py, which is stopped after some hundred steps, for keep_bounds (jobs)
+model_stored.py. Prints how many inputs there were, and ends with status 1 at the first that is not answered so.
 """
 # first, since it says where Python is too old for the rest
 from programs import ready, started
@@ -34,6 +34,7 @@ from model_cases import case_lines, expected
 from model_curves import curve
 from model_jobs import lines_of
 from model_lines import printed
+from model_stored import kept
 
 LIMIT_SECONDS = 10
 MODEL_STEPS = 300
@@ -50,10 +51,10 @@ CASE_LINE = "|".join((
 # ---- the files that are damaged
 
 def jobs():
-    """The sample, a job for every ending and refusal, and some without tag 2."""
-    stored = make_jobs.stored()
-    ends = "wolfe_sample wolfe_every_field approximate limit 2_answer 4_epsilon_k 5 6 7 3_curve_9"
-    return [stored[name] for name in ends.split()]
+    """The sample, a job for every ending and refusal, and some without tag 2, as they were stored before too."""
+    stored, before = make_jobs.stored(), make_jobs.before()
+    ends = "wolfe_sample wolfe_every_field approximate limit 2_answer 6 7 default_every_other_field default_start"
+    return [stored[name] for name in ends.split()] + [before[name] for name in ("4_epsilon_k", "5", "3_curve_9")]
 
 
 def cases():
@@ -121,18 +122,14 @@ class Judge:
         """Whether the output is what the model says; the model of a job may stop early."""
         if self.kind == "cases":
             return out == expected(data, self.lines_of), True
+        if self.kind == "keep_bounds":
+            return out == kept(data), True
         lines = list(itertools.islice(lines_of(data), MODEL_STEPS))
         whole = not lines[-1].startswith("ASK")
         told = printed(lines)
         return (out == told if whole else out.startswith(told)), whole
 
-    def judge(self, name, data):
-        if data in self.seen:
-            return
-        self.seen.add(data)
-        if name not in ("whole", "malformed") and len(self.seen) % self.every:
-            return
-        out = self.answer(data)
+    def look_at_lines(self, data, out):
         text = out.decode("ascii", "replace")
         if text and not text.endswith("\n"):
             self.fail(data, "the last line has no end", out)
@@ -141,6 +138,16 @@ class Judge:
         for line in text.split("\n")[:-1]:
             if not self.line.match(line):
                 self.fail(data, "a line of no known kind: %r" % line, out)
+
+    def judge(self, name, data):
+        if data in self.seen:
+            return
+        self.seen.add(data)
+        if name not in ("whole", "malformed") and len(self.seen) % self.every:
+            return
+        out = self.answer(data)
+        if self.kind != "keep_bounds":
+            self.look_at_lines(data, out)
         right, whole = self.matches(data, out)
         if not right:
             self.fail(data, "not what the model says", out)
@@ -191,7 +198,7 @@ def main(kind, program, quick, every):
                 if v != f[i]:
                     j.judge("one byte", f[:i] + bytes([v]) + f[i + 1:])
     for n in range(1000 if quick else 40000):
-        f = files[r.below(len(files))] if kind == "search" or n % 4 else whole
+        f = files[r.below(len(files))] if kind != "cases" or n % 4 else whole
         j.judge("random edits", edited(r, f, files[r.below(len(files))]))
     if kind == "cases":
         for n in range(20 if quick else 400):
@@ -201,13 +208,13 @@ def main(kind, program, quick, every):
 
 
 def begin():
-    usage = "usage: damaged.py cases|search PROGRAM [--quick|--few]"
+    usage = "usage: damaged.py cases|search|keep_bounds PROGRAM [--quick|--few]"
     modes = [a for a in sys.argv[1:] if a in ("--quick", "--few")]
     given = [a for a in sys.argv[1:] if a not in modes]
     if len(given) != 2 or len(modes) > 1:
         sys.exit(usage)
     kind, program = given
-    if kind not in ("cases", "search"):
+    if kind not in ("cases", "search", "keep_bounds"):
         sys.exit("damaged: there is no kind '%s'; %s" % (kind, usage))
     if program.startswith("-"):
         sys.exit("damaged: there is no option '%s'; %s" % (program, usage))

@@ -3,7 +3,7 @@
 
 usage: front.py
 
-The front and bin/ are copied into a project of three small programs in a temporary folder, beside a stand-in of rt
+The front and bin/ are copied into a project of four small programs in a temporary folder, beside a stand-in of rt
 that keeps rt's files and prints rt's lines. There proofs fail, builds are broken off and rt is absent. A few jobs run
 through the project's own front, with the real rt and programs. Ends with status 1 at the first check that fails.
 """
@@ -21,13 +21,14 @@ import time
 LIMIT_SECONDS = 30
 NOBODY = 65534
 
-# search stands on mid and base, cases on base alone; io is the toolchain's
+# search stands on mid and base, the other programs on base alone; io is the toolchain's
 CRATES = """# floors
 base:
 
 mid: base      # a library
 search: mid io
 cases: base io
+keep_bounds: base io
 defaults: base
 """
 
@@ -42,7 +43,7 @@ mkdir "$fake/only" || echo "two at once" >>"$fake/calls"
 sleep 0.03
 mkdir -p target/log target/stamp target/bin
 case $* in
-    "") plan="base mid search cases defaults" ;;
+    "") plan="base mid search cases keep_bounds defaults" ;;
     search) plan="base mid search" ;;
     *) plan="base $1" ;;
 esac
@@ -68,7 +69,7 @@ for crate in $plan; do
         else
             echo "rt: $crate proved (2 s)"
             case $crate in
-                search | cases | defaults)
+                search | cases | keep_bounds | defaults)
                     if [ -e "$fake/run" ]; then
                         cat "$fake/run"
                         bad=$crate
@@ -171,7 +172,7 @@ class Project:
         for name in ("base", "mid"):
             write(self.at("crates", name, "src", "lib.rt"), "")
             write(self.at("crates", name, "proofs", "Proof.antt"), "")
-        for name in ("search", "cases", "defaults"):
+        for name in ("search", "cases", "keep_bounds", "defaults"):
             write(self.at("crates", name, "src", "main.rt"), "")
         write(self.at("crates", "search", "stdin"), "sample\n")
         write(os.path.join(self.fake, "bin", "rt"), RT, 0o755)
@@ -264,9 +265,9 @@ def first_build(p):
     told = said("proving mid, 1 crate left", "proving search, 0 crates left")
     p.expect("one crate changed", p.build("search"), (0, "", told))
     check("rt was called thrice", p.calls() == ["check search"] * 3, repr(p.calls()))
-    p.expect("prove", p.front("prove"), (0, said("5 crates are proved"), said(
-        "proving cases, 1 crate left", "proving defaults, 0 crates left")))
-    p.expect("prove again", p.front("prove"), (0, said("5 crates are proved"), ""))
+    p.expect("prove", p.front("prove"), (0, said("6 crates are proved"), said(
+        "proving cases, 2 crates left", "proving keep_bounds, 1 crate left", "proving defaults, 0 crates left")))
+    p.expect("prove again", p.front("prove"), (0, said("6 crates are proved"), ""))
     p.tidy("first build")
 
 
@@ -354,13 +355,13 @@ def wrong_words(p):
     for name in ("io", "nosuch", "no such", "../search", ".*", ""):
         wanted = usage if not name else said("crates.txt lists no crate " + name)
         p.expect("build %r" % name, p.build(name), (1, "", wanted))
-    for name in ("search", "cases"):
+    for name in ("search", "cases", "keep-bounds"):
         wanted = (1, "", said("%s wants one file: ./altugmesh %s FILE" % (name, name)))
         p.expect(name + " alone", p.front(name), wanted)
         p.expect(name + " of two", p.front(name, "a", "b"), wanted)
     for name in ("defaults", "prove", "version", "help"):
         p.expect(name + " of one", p.front(name, "x"), (1, "", said(name + " takes no argument")))
-    for name in ("nosuch", "", "-x", "program"):
+    for name in ("nosuch", "", "-x", "program", "keep_bounds"):
         wanted = said("there is no command '%s'; ./altugmesh help says what there is" % name)
         p.expect("command %r" % name, p.front(name), (1, "", wanted))
     for name in ("help", "-h", "--help"):
@@ -617,7 +618,7 @@ def real(folder):
     front = os.path.join(ROOT, "altugmesh")
     link = os.path.join(folder, "linked")
     os.symlink(front, link)
-    for name in ("search", "cases"):
+    for name in ("search", "cases", "keep_bounds"):
         ready(os.path.join(ROOT, "bin", name))
 
     def expect(name, command, cwd, wanted, given=os.devnull):
@@ -633,6 +634,10 @@ def real(folder):
     expect("a stored job on standard input", (front, "search", "-"), folder, out, job)
     odd = os.path.join(ROOT, "tests", "odd.expected")
     expect("odd cases", (front, "cases", os.path.join("..", "odd.cases")), jobs, odd)
+    job, old = os.path.join(jobs, "4_level.job"), os.path.join(jobs, "old", "4_level.job")
+    expect("a job with its bounds kept", (front, "keep-bounds", old), folder, job)
+    expect("a job that has bounds", (front, "keep-bounds", "-"), folder, job, job)
+    expect("no job", (front, "keep-bounds", odd), folder, odd)
     got = subprocess.run((front, "version"), stdout=subprocess.PIPE, universal_newlines=True)
     with open(os.path.join(ROOT, "toolchain")) as f:
         line = "proved with %s; " % f.read().strip()

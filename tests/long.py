@@ -1,14 +1,16 @@
 #!/usr/bin/env python3
-"""Long inputs and outputs, and such as come and go in pieces, through `search` and `cases`.
+"""Long inputs and outputs, and such as come and go in pieces, through `search`, `cases` and `keep_bounds`.
 
-usage: long.py [SEARCH CASES] [--all]
+usage: long.py [SEARCH CASES KEEP_BOUNDS] [--all]
 
-The programs are bin/search and bin/cases where none are given. What must be written comes from the models.
+The programs are bin/search, bin/cases and bin/keep_bounds where none are given. What must be written comes from the
+models.
 
 - Jobs that go on to an iteration limit of 10,000: some 20,000 lines each.
 - Fields of a case file, among them the longest, that a read cuts at every place.
 - The same at the end of a full buffer of 65,536 bytes: at some hundred places, with --all at every place.
 - A case file with more than a million fields.
+- No job, with as many bytes as the longest job and some more, and with millions.
 - Input that comes byte by byte, and output that is read byte by byte.
 - Writes that take a part of what they are given: the pipe is full, and the program is stopped and goes on.
 
@@ -34,11 +36,12 @@ import time
 from case_file import answer, backtracks, dot, hager_zhang, params, point
 from exact import MAX, NAN, ONE, ZERO, F, Random
 from lists_hagerzhang import endings
-from make_jobs import job, stored
+from make_jobs import before, job, stored
 from model_backtracking import ARMIJO
 from model_cases import case_lines, expected, parsed
 from model_jobs import lines_of
 from model_lines import printed
+from model_stored import kept
 from native import over_native
 
 LIMIT_SECONDS = 120
@@ -206,6 +209,18 @@ def many_fields(answers, cases):
     return data, printed(first) + rest
 
 
+# ---- what is no job
+
+def no_jobs():
+    """Bytes of many lengths that begin as a job does, and are none."""
+    longest = stored()["wolfe_every_field"]
+    lengths = list(range(len(longest) + 1, len(longest) + 8)) + [PAGE, WINDOW - 1, WINDOW, WINDOW + 55, WINDOW + 56,
+                                                                WINDOW + 57, 2 * WINDOW + 56, 3000001]
+    r = Random(6)
+    rest = b"".join(r.below(1 << 64).to_bytes(8, "big") for _ in range(PAGE))
+    return [(longest + rest * (n // len(rest) + 1))[:n] for n in lengths]
+
+
 # ---- byte by byte
 
 def run_and_read_bytes(what, program, data, right):
@@ -285,9 +300,9 @@ def run_with_stops(what, program, data, right):
 
 def main(given):
     rest, _, named = options(given, {}, {"--all"}) or ([None], None, None)
-    if len(rest) not in (0, 2):
-        sys.exit("usage: long.py [SEARCH CASES] [--all]")
-    search, cases = programs(rest, "search", "cases")
+    if len(rest) not in (0, 3):
+        sys.exit("usage: long.py [SEARCH CASES KEEP_BOUNDS] [--all]")
+    search, cases, keep = programs(rest, "search", "cases", "keep_bounds")
     said = []
     limits = [limit_job(*which) for which in LIMITS]
     for data, right in limits:
@@ -304,19 +319,28 @@ def main(given):
     run_file("many fields", cases, many, many_right)
     said.append("a case file with %d bytes and %d lines" % (len(many), many_right.count(b"\n")))
 
+    for data in no_jobs():
+        run_file("no job of %d bytes" % len(data), keep, data, data)
+    said.append("%d inputs that are no job, the longest with %d bytes" % (len(no_jobs()), max(map(len, no_jobs()))))
+
     jobs = stored()
     for name in "wolfe_every_field", "limit", "approximate", "9_longest_and_one", "9_bounds_cut", "9_empty":
         run_messages("%s byte by byte" % name, search, single(jobs[name]), printed(lines_of(jobs[name])))
     mixed = b"".join(endings()) + b"".join(field for _, field in cut_fields()) + b"".join(endings())
     mixed_right = expected(mixed)
     run_messages("a case file byte by byte", cases, single(mixed), mixed_right)
+    relied = before()
+    for name in "curve_1_alone", "3_before_4", "wolfe_every_field", "9_longest_and_one", "9_bounds_cut", "9_empty":
+        run_messages("%s byte by byte" % name, keep, single(relied[name]), kept(relied[name]))
     run_and_read_bytes("read byte by byte", search, *limits[0])
     run_and_read_bytes("read byte by byte", cases, mixed, mixed_right)
-    said.append("7 inputs and 2 outputs byte by byte")
+    run_and_read_bytes("read byte by byte", keep, mixed, mixed)
+    said.append("13 inputs and 3 outputs byte by byte")
 
     long_cases = mixed * 12
     stops = run_with_stops("stopped in its writes", search, *limits[1])
     stops += run_with_stops("stopped in its writes", cases, long_cases, expected(long_cases))
+    stops += run_with_stops("stopped in its writes", keep, long_cases, long_cases)
     said.append("%d writes that took a part" % stops)
     print("long: " + "; ".join(said))
 

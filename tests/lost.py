@@ -1,11 +1,11 @@
 #!/usr/bin/env python3
-"""Nothing is lost silently: what `search` and `cases` do where a read or a write fails.
+"""Nothing is lost silently: what `search`, `cases` and `keep_bounds` do where a read or a write fails.
 
-usage: lost.py [SEARCH CASES]
+usage: lost.py [SEARCH CASES KEEP_BOUNDS]
 
-The programs are bin/search and bin/cases where none are given. Each is run with outputs that fail at once or after some
-bytes, and with inputs that cannot be read or break off. Standard output must hold exactly the first N bytes of what
-must be written, standard error exactly the one line `LOST standard output after N bytes: TEXT` or
+The programs are bin/search, bin/cases and bin/keep_bounds where none are given. Each is run with outputs that fail at
+once or after some bytes, and with inputs that cannot be read or break off. Standard output must hold exactly the first
+N bytes of what must be written, standard error exactly the one line `LOST standard output after N bytes: TEXT` or
 `LOST standard input after N bytes: TEXT`, and the status is 0. Where nothing fails standard error is empty. What must
 be written comes from the models. What this machine does not let one try is said. Ends with status 1 at the first run
 that is otherwise.
@@ -25,7 +25,7 @@ import tempfile
 from case_file import answer, dot, hager_zhang, params, point
 from exact import NAN, ONE, F
 from lists_hagerzhang import endings
-from make_jobs import job
+from make_jobs import before, job
 from model_cases import BACKTRACKING, HAGER_ZHANG, expected, parsed
 from model_lines import printed
 from native import over_native
@@ -43,10 +43,11 @@ RESET = "Connection reset by peer"
 
 
 class Subject:
-    """A program with a long input and what must be written for it; the input is in a file too."""
+    """A program with a long input and what must be written for it; the input is in a file too. A pipe of one page that
+    nobody reads takes a page of what it writes, or a shorter first write alone, since a long one does not join it."""
 
-    def __init__(self, program, data, text, folder):
-        self.program, self.data, self.text = program, data, text
+    def __init__(self, program, data, text, folder, first=PAGE):
+        self.program, self.data, self.text, self.first = program, data, text, first
         self.file = os.path.join(folder, os.path.basename(program) + ".in")
         self.out = os.path.join(folder, "out")
         with open(self.file, "wb") as f:
@@ -167,7 +168,7 @@ def pipes(s):
     os.close(w)
     with open(r, "rb") as f:
         out = f.read()
-    if len(out) != room:
+    if len(out) != min(room, s.first):
         raise Wrong("%s, into a pipe that does not block: %d bytes are in it" % (s.program, len(out)))
     s.output_lost("into a pipe that does not block", came, out, AGAIN)
     # nobody reads at all
@@ -275,7 +276,16 @@ def cases_broken_off(s):
         broken_off(s, data, until(data))
 
 
-# ---- the two programs
+def keep_bounds_broken_off(s):
+    """Nothing is written of what may be a job, since more of it may be missing; what is longer is passed on."""
+    job = before()["3_before_4"]
+    for data in [job[:n] for n in range(len(job) + 1)] + [s.data[:55]]:
+        broken_off(s, data, b"")
+    for n in 56, 57, 4096, 65592, 90001:
+        broken_off(s, s.data[:n], s.data[:n])
+
+
+# ---- the programs
 
 def long_job():
     """Some thousand lines: more than one write of `search`."""
@@ -290,16 +300,26 @@ def long_cases():
     return data, expected(data)
 
 
+def no_job():
+    """More than one read, and no job: it comes out as it is."""
+    data, _ = long_cases()
+    return data, data
+
+
 def main(given):
     rest, _, _ = options(given, {}) or ([None], None, None)
-    if len(rest) not in (0, 2):
-        sys.exit("usage: lost.py [SEARCH CASES]")
-    both = programs(rest, "search", "cases")
+    if len(rest) not in (0, 3):
+        sys.exit("usage: lost.py [SEARCH CASES KEEP_BOUNDS]")
+    tried = programs(rest, "search", "cases", "keep_bounds")
     trials = whole, full, size_limits, small_disk, bad_outputs, pipes, no_error_stream, bad_inputs
     skipped, runs = [], 0
     with tempfile.TemporaryDirectory(prefix="lost-") as folder:
-        for program, (data, text), own in zip(both, (long_job(), long_cases()), (search_broken_off, cases_broken_off)):
-            s = Subject(program, data, text, folder)
+        subjects = (
+            (Subject(tried[0], *long_job(), folder), search_broken_off),
+            (Subject(tried[1], *long_cases(), folder), cases_broken_off),
+            (Subject(tried[2], *no_job(), folder, first=56), keep_bounds_broken_off),
+        )
+        for s, own in subjects:
             for trial in trials + (own,):
                 word = trial(s)
                 if word and word not in skipped:
@@ -307,7 +327,7 @@ def main(given):
             runs += s.runs
     for word in skipped:
         print("lost: not tried: " + word)
-    print("lost: %d runs of %s and %s, nothing was lost silently" % (runs, *both))
+    print("lost: %d runs of %s, %s and %s, nothing was lost silently" % (runs, *tried))
 
 
 if __name__ == "__main__":

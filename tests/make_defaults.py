@@ -3,8 +3,8 @@
 
 usage: make_defaults.py FILE
 
-The defaults stand here in the decimals of 01 and 02. Each is formed exactly, as a fraction, and rounded once (exact.py). Nothing of
-the program under test is used.
+The defaults stand here in the decimals of 01 and 02. Each is formed exactly, as a fraction, and rounded once
+(exact.py). Nothing of the program under test is used.
 """
 import sys
 from fractions import Fraction

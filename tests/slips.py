@@ -32,12 +32,17 @@ def default(i, factor):
     return slip
 
 
+def old_bound(jobs, curves):
+    """The default of max before 02's request 2."""
+    jobs.DEFAULTS[NAMES.index("high")] = F(1e5)
+
+
 def count_default(tag, value):
     def slip(jobs, curves):
         right = jobs.parameters
 
-        def wrong(fields):
-            params, b, n = right(fields)
+        def wrong(fields, defaults):
+            params, b, n = right(fields, defaults)
             if tag in fields:
                 return params, b, n
             return (params, value, n) if tag == jobs.BUDGET else (params, b, value)
@@ -72,6 +77,7 @@ def slips():
     """The name and the changes of each kind of slip."""
     for i, name in enumerate(NAMES):
         yield name, [default(i, factor) for factor in FACTORS]
+    yield "the old high", [old_bound]
     for value in 10, 50, 51, 52, 53, 99, 101:
         yield "B %d" % value, [count_default(5, value)]
     yield "N", [count_default(6, value) for value in (50, 99, 101, 1000)]

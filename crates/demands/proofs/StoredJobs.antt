@@ -1,5 +1,5 @@
--- 02, request 2, of stored jobs: `stored-jobs`. What is written is shown in stored_jobs/proofs/Kept.antt; that the whole
--- text of a job stays follows, since the text is worked out from what the job says. Assumes nothing.
+-- 02, request 2, of stored jobs: `stored-jobs`. What is written is shown in stored_jobs/proofs/Kept.antt. That the
+-- whole text of a job stays follows, since the text is worked out from what the job says. Assumes nothing.
 use mathlib.Core.Path.{ap}
 use Rattle.jobs.proofs.BothWays.{no-job-refused}
 use Rattle.stored_jobs.proofs.Kept as kept

@@ -1,6 +1,6 @@
 -- 02, request 2: "Jobs without tag 2 relied on the old number. Our stored jobs get a field 2 written with the old
--- bounds, and a test shows that their output is unchanged." For any bytes s, `stored_jobs::with_bounds` writes `keptOf s`.
--- Here is what that is, and that it says what s said.
+-- bounds, and a test shows that their output is unchanged." For any bytes s, `stored_jobs::with_bounds` writes
+-- `keptOf s`. Here is what that is, and that it says what s said.
 use Prim.Native.Nat.{ℕ, _≤_, _<_}
 use mathlib.Core.Path.{_≡_}
 use mathlib.Core.List.{List, _++_}

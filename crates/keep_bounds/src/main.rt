@@ -7,8 +7,8 @@ use streams::Sent;
 ghost use Prim.Native.Nat.{_≤_};
 ghost use lib.ListN.{length};
 
-// What is behind the first bytes, as it comes. All that was read was written, so both have the same count. A proved loop
-// has to end, and nothing says that an input does: it counts its turns down.
+// What is behind the first bytes, as it comes. All that was read was written, so both have the same count. A proved
+// loop has to end, and nothing says that an input does: it counts its turns down.
 fn pass_on(before: Sent) {
     let mut sent = before;
     let mut page = io::large_buffer();

@@ -57,7 +57,8 @@ four = ofBits binary64 0x4010_0000_0000_0000
 abbrev j : Job
 j = let q = defaultOptions .params in record {
   curve = 1;
-  options = optionsWith defaultOptions (q .epsilon) zero four (q .start) (defaultOptions .budget) (defaultOptions .limit);
+  options =
+      optionsWith defaultOptions (q .epsilon) zero four (q .start) (defaultOptions .budget) (defaultOptions .limit);
 }
 
 says : meansOf (curve ∷ bounds ∷ []) ≡ value j

@@ -1,5 +1,5 @@
--- Fields in a job's form with the old bounds at their place are in that form too, and say with the new defaults what was
--- said with the old ones; fields that have bounds stay as they are. One walk through the fields shows all of it
+-- Fields in a job's form with the old bounds at their place are in that form too, and say with the new defaults what
+-- was said with the old ones; fields that have bounds stay as they are. One walk through the fields shows all of it
 -- (`placed`). Assumes nothing.
 use mathlib.Core.Path.{_≡_, refl, ap}
 use mathlib.Core.Bool.{Bool, true, false, cond}
@@ -88,7 +88,8 @@ module _ (t : ℕ) (low : t < 2) where
           unmoved = λ body has. absurd (Option·none-ne-some body (rw (e, missing) at has));
         }
 
-    by-tag : (l e : Bool) → ltb (f .tag) 2 ≡ l → eqb (f .tag) 2 ≡ e → (f .tag < 2 → Placed (f .tag) fs) → Placed t (f ∷ fs)
+    by-tag : (l e : Bool) → ltb (f .tag) 2 ≡ l → eqb (f .tag) 2 ≡ e → (f .tag < 2 → Placed (f .tag) fs)
+        → Placed t (f ∷ fs)
     by-tag true e is-lower is next = lower is-lower (next (ltb-true (f .tag) 2 is-lower))
     by-tag false true is-lower is next = taken is-lower is
     by-tag false false is-lower is next = free is-lower is

@@ -1,8 +1,8 @@
 -- What `with_bounds` writes, for any bytes. A job comes out as its fields with the old bounds at their place
--- (`job-kept`), so a job with bounds as it is (`bounds-stay`); so does whatever is no job (`no-job-stays`). What comes out
--- says with the new defaults what the bytes said with the old ones (`kept-says`), and is a job exactly where they are
--- (`kept-is-job`). Written a second time it stays (`kept-once`). The first 56 bytes decide (`front-decides`), and what
--- comes of at most 56 has no more (`fits`). Assumes nothing.
+-- (`job-kept`), so a job with bounds as it is (`bounds-stay`); and so does whatever is no job (`no-job-stays`). What
+-- comes out says with the new defaults what the bytes said with the old ones (`kept-says`), and is a job exactly where
+-- they are (`kept-is-job`). Written a second time it stays (`kept-once`). The first 56 bytes decide (`front-decides`),
+-- and what comes of at most 56 has no more (`fits`). Assumes nothing.
 use mathlib.Core.Path.{_≡_, refl, sym, ap, ap₂, _∙_, subst}
 use mathlib.Core.Bool.{Bool, true, false, not, false≢true}
 use mathlib.Core.List.{List, [], _∷_, _++_, append-assoc}

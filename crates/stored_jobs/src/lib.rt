@@ -16,8 +16,8 @@ fn relies(job: &[u8]) -> bool
     }
 }
 
-// Writes the job with the old bounds as its field 2 where it has none; a job that has one, and bytes that are no job, as
-// they are.
+// Writes the job, with the old bounds as its field 2 where it has none. A job that has one, and bytes that are no job,
+// are written as they are.
 pub fn with_bounds(out: &mut [u8], at: usize, job: &[u8]) -> usize
     ensures { λ r. ⌜ Writes (now (out .entry)) at (keptOf (now (job .entry))) (now (out .exit)) r ⌝ }
 {

@@ -10,7 +10,8 @@ use Rattle.stored_jobs.proofs.relies.Tie as tie
 returns : tie.Need-returns
 unfolding relies
 returns c =
-    let job = ap isJob (ap readTold (sym (c .before .enum-told .given .1)) ∙ c .before .before .before .read .ensures) in
+    let read = c .before .before .before .read .ensures in
+    let job = ap isJob (ap readTold (sym (c .before .enum-told .given .1)) ∙ read) in
     rw (← job, ← c .byte .ensures)
 
 returns-2 : tie.Need-returns-2
