@@ -48,7 +48,7 @@ said says (some body) other = says body
 abbrev pub floatIn : ℕ → List ℕ → Float
 floatIn skip body = floatOf (drop skip body)
 
--- what the bodies of the tags 2 to 6 say; what is absent has its default, of the defaults d
+-- what the bodies of the tags 2 to 6 say; what is absent is as in the defaults d
 unfoldable pub optionsOf : Options → Option (List ℕ) → Option (List ℕ) → Option (List ℕ) → Option (List ℕ)
     → Option (List ℕ) → Options
 optionsOf d bounds start epsilon budget limit =

@@ -1,5 +1,5 @@
 -- How a job is read, for any bytes at all: in the order of the tags each field is there or not, and nothing may be
--- left. That this reads 01's format, no less and no more, is proved in proofs/BothWays.antt.
+-- left. That this reads 01's format, no less and no more, whatever the defaults are, is proved in proofs/BothWays.antt.
 use Prim.Native.Nat.{ℕ}
 use mathlib.Core.Path.{_≡_}
 use mathlib.Core.Bool.{Bool, false, cond, _&&_}
@@ -33,7 +33,7 @@ found tag n s = cond (stands tag n s) (some (bodyOf s)) none
 unfoldable pub behind : ℕ → ℕ → List ℕ → List ℕ
 behind tag n s = cond (stands tag n s) (drop (endOf s) s) s
 
--- what the fields 2 to 6 say, each looked for at its place
+-- what the fields 2 to 6 say, each looked for at its place, over today's defaults
 abbrev pub optionsAt : List ℕ → ℕ → ℕ → ℕ → ℕ → ℕ → Options
 optionsAt s bounds start epsilon budget limit =
     optionsOf defaultOptions

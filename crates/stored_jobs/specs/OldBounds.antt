@@ -1,5 +1,5 @@
 -- 02, request 2: "The default becomes 64. Jobs without tag 2 relied on the old number. Our stored jobs get a field 2
--- written with the old bounds". What the old defaults were, and which fields a stored job gets.
+-- written with the old bounds". What the old defaults were, and which fields a stored job then has.
 use Prim.Native.Nat.{ℕ}
 use mathlib.Core.Bool.{Bool, true, false, cond}
 use mathlib.Core.List.{List, [], _∷_, _++_}
@@ -26,7 +26,7 @@ oldBounds = record {
       0x3c ∷ 0xb0 ∷ 0 ∷ 0 ∷ 0 ∷ 0 ∷ 0 ∷ 0 ∷ 0x40 ∷ 0xf8 ∷ 0x6a ∷ 0 ∷ 0 ∷ 0 ∷ 0 ∷ 0 ∷ [];
 }
 
--- fields in the order of their tags, with that field at its place where they have no field 2
+-- for fields whose tags ascend: these, with that field at its place where there is no field 2
 unfoldable pub withBounds : List Field → List Field
 withBounds [] = oldBounds ∷ []
 withBounds (f ∷ fs) =
@@ -37,7 +37,7 @@ abbrev pub bytesOf : List Field → List ℕ
 bytesOf [] = []
 bytesOf (f ∷ fs) = written f ++ bytesOf fs
 
--- whether bytes that are read so are a job
+-- whether what was read is a job
 abbrev pub isJob : Result Job → Bool
 isJob (value j) = true
 isJob (refused n) = false
