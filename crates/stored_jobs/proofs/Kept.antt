@@ -1,17 +1,17 @@
 -- What `with_bounds` writes, for any bytes. A job comes out as its fields with the old bounds at their place
 -- (`job-kept`), so a job with bounds as it is (`bounds-stay`); and so does whatever is no job (`no-job-stays`). What
 -- comes out says with the new defaults what the bytes said with the old ones (`kept-says`), and is a job exactly where
--- they are (`kept-is-job`). Written a second time it stays (`kept-once`). The first 56 bytes decide (`front-decides`),
--- and what comes of at most 56 has no more (`fits`). Assumes nothing.
+-- they are (`kept-is-job`). Written a second time it stays (`kept-once`). 56 bytes or more stay as they are, whatever
+-- comes behind them (`front-decides`), and what comes of at most 56 has no more (`fits`). Assumes nothing.
 use mathlib.Core.Path.{_≡_, refl, sym, ap, ap₂, _∙_, subst}
 use mathlib.Core.Bool.{Bool, true, false, not, false≢true}
 use mathlib.Core.List.{List, [], _∷_, _++_, append-assoc}
-use mathlib.Core.Option.{Option, some, none}
+use mathlib.Core.Option.{some, none}
 use Prim.Native.Nat.{ℕ, _≤_, _<_}
 use native.Mathlib.Omega.{arith}
 use lib.Dec.{eqb}
 use lib.ListN.{length, take, drop, length-append}
-use borrow.Author.Tests.{eqb-true, eqb-false, ne-eqb, lt-ltb, le-ltb}
+use borrow.Author.Tests.{eqb-true, eqb-false, lt-ltb, le-ltb}
 use Rattle.floats.proofs.Branches.{and-first}
 use Rattle.refusals.specs.Results.{Result, value, refused}
 use Rattle.refusals.proofs.Refusals.{refused-not-value}
@@ -20,7 +20,7 @@ use Rattle.hagerzhang_rules.specs.Parameters.{defaultOptions}
 use Rattle.wire.specs.Wire.{byteAt}
 use Rattle.fields.specs.Fields.{Field, written}
 use Rattle.jobs.specs.declared.Job.{Job}
-use Rattle.jobs.specs.Format.{sizeOf, WellFormed, nothing, field, bodyUnder, decoded, meansBy, meansOf}
+use Rattle.jobs.specs.Format.{sizeOf, WellFormed, nothing, field, bodyUnder, decoded, meansOf}
 use Rattle.jobs.specs.Reader.{stands, jobBy, jobOf}
 use Rattle.jobs.proofs.Parts.{within}
 use Rattle.jobs.proofs.InOrder.{no-curve}
@@ -114,12 +114,9 @@ job-kept s fs j (field {f = f} {fs = gs} {s = rest} above size more) means = by-
 
 -- ---- whatever is no job
 
-not-job : (s : List ℕ) → isJob (jobOf s) ≡ false → keptOf s ≡ s
-unfolding keptOf relies
-not-job s h = rw h
-
 pub no-job-stays : (s : List ℕ) → jobOf s ≡ refused 9 → keptOf s ≡ s
-no-job-stays s h = not-job s (ap isJob h)
+unfolding keptOf relies
+no-job-stays s h = rw (ap isJob h)
 
 -- ---- what is known of any bytes: they are a job, and hold its fields, or none
 data Known (s : List ℕ) : Type 0 where

@@ -1,5 +1,5 @@
 -- `stored_jobs::relies` meets its contract. Assumes nothing.
-use mathlib.Core.Path.{_≡_, sym, ap, _∙_}
+use mathlib.Core.Path.{sym, ap, _∙_}
 use borrow.Author.Needs.{needs}
 use Rattle.jobs.specs.Reader.{readTold}
 use Rattle.stored_jobs.specs.OldBounds.{isJob}
