@@ -57,6 +57,13 @@ def jobs():
     return [stored[name] for name in ends.split()] + [before[name] for name in ("4_epsilon_k", "5", "3_curve_9")]
 
 
+def relying():
+    """Jobs without tag 2, with every choice of the other fields; and three with it."""
+    fields = {"first": F(7), "epsilon": F(0), "b": 1000, "n": 3}
+    chosen = [dict(c) for n in range(len(fields) + 1) for c in itertools.combinations(fields.items(), n)]
+    return [make_jobs.job(2, **c) for c in chosen] + jobs()[:3]
+
+
 def cases():
     """A few short cases with every kind of field and line."""
     return [
@@ -179,7 +186,7 @@ def edited(r, data, other):
 
 def main(kind, program, quick, every):
     r, j = Random(20260707), Judge(kind, program, every)
-    files = cases() if kind == "cases" else jobs()
+    files = {"cases": cases, "search": jobs, "keep_bounds": relying}[kind]()
     long = b"".join(make_cases.listed()) if kind == "cases" else b""
     whole = b"".join(files) if kind == "cases" else b""
     j.judge("whole", b"")

@@ -10,7 +10,7 @@ models.
 - Fields of a case file, among them the longest, that a read cuts at every place.
 - The same at the end of a full buffer of 65,536 bytes: at some hundred places, with --all at every place.
 - A case file with more than a million fields.
-- No job, with as many bytes as the longest job and some more, and with millions.
+- No job, from one byte more than a job can have up to millions; what it begins with is a job, with bounds or without.
 - Input that comes byte by byte, and output that is read byte by byte.
 - Writes that take a part of what they are given: the pipe is full, and the program is stopped and goes on.
 
@@ -212,13 +212,13 @@ def many_fields(answers, cases):
 # ---- what is no job
 
 def no_jobs():
-    """Bytes of many lengths that begin as a job does, and are none."""
-    longest = stored()["wolfe_every_field"]
-    lengths = list(range(len(longest) + 1, len(longest) + 8)) + [PAGE, WINDOW - 1, WINDOW, WINDOW + 55, WINDOW + 56,
-                                                                WINDOW + 57, 2 * WINDOW + 56, 3000001]
-    r = Random(6)
+    """Bytes of many lengths that begin with a job, and are none. Of the jobs two have no bounds."""
+    lengths = list(range(56, 63)) + [PAGE, WINDOW - 1, WINDOW, WINDOW + 55, WINDOW + 56, WINDOW + 57, 2 * WINDOW + 56]
+    r, jobs = Random(6), before()
     rest = b"".join(r.below(1 << 64).to_bytes(8, "big") for _ in range(PAGE))
-    return [(longest + rest * (n // len(rest) + 1))[:n] for n in lengths]
+    fronts = [jobs[name] for name in ("wolfe_every_field", "3_before_4", "curve_1_alone")]
+    whole = [(front + rest * (n // len(rest) + 1))[:n] for front in fronts for n in lengths + [3000001]]
+    return whole + [fronts[1] + rest[:n] for n in range(1, 56 - len(fronts[1]))]
 
 
 # ---- byte by byte

@@ -1,5 +1,8 @@
 -- `stored_jobs::relies` meets its contract. Assumes nothing.
+use Prim.Native.Nat.{ℕ}
 use mathlib.Core.Path.{sym, ap, _∙_}
+use mathlib.Core.Bool.{not}
+use lib.Dec.{eqb}
 use borrow.Author.Needs.{needs}
 use Rattle.jobs.specs.Reader.{readTold}
 use Rattle.stored_jobs.specs.OldBounds.{isJob}
@@ -12,7 +15,7 @@ unfolding relies
 returns c =
     let read = c .before .before .before .read .ensures in
     let job = ap isJob (ap readTold (sym (c .before .enum-told .given .1)) ∙ read) in
-    rw (← job, ← c .byte .ensures)
+    rw (← job) (ap (λ (b : ℕ). not (eqb b 2)) (c .byte .ensures))
 
 returns-2 : tie.Need-returns-2
 unfolding relies
