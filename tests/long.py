@@ -10,7 +10,7 @@ models.
 - Fields of a case file, among them the longest, that a read cuts at every place.
 - The same at the end of a full buffer of 65,536 bytes: at some hundred places, with --all at every place.
 - A case file with more than a million fields.
-- No job, from one byte more than a job can have up to millions; what it begins with is a job, with bounds or without.
+- No job, of some forty bytes up to millions, that begins with a job, with bounds or without.
 - Input that comes byte by byte, and output that is read byte by byte.
 - Writes that take a part of what they are given: the pipe is full, and the program is stopped and goes on.
 
