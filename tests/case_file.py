@@ -16,10 +16,11 @@ def words(*w):
     return struct.pack(">%dQ" % len(w), *w)
 
 
-def params(high=F(1e5), **changed):
+def params(**changed):
     """Hager-Zhang's parameters: the defaults, but for those that are named. A case has every one written out, and the
     cases were made when the default of high was 1e5."""
-    return [dict(changed, high=high).get(name, default) for name, default in zip(NAMES, DEFAULTS)]
+    changed.setdefault("high", F(1e5))
+    return [changed.get(name, default) for name, default in zip(NAMES, DEFAULTS)]
 
 
 def hager_zhang(params, f0, s0, b, n):

@@ -319,9 +319,10 @@ def main(given):
     run_file("many fields", cases, many, many_right)
     said.append("a case file with %d bytes and %d lines" % (len(many), many_right.count(b"\n")))
 
-    for data in no_jobs():
+    inputs = no_jobs()
+    for data in inputs:
         run_file("no job of %d bytes" % len(data), keep, data, data)
-    said.append("%d inputs that are no job, the longest with %d bytes" % (len(no_jobs()), max(map(len, no_jobs()))))
+    said.append("%d inputs that are no job, the longest with %d bytes" % (len(inputs), max(map(len, inputs))))
 
     jobs = stored()
     for name in "wolfe_every_field", "limit", "approximate", "9_longest_and_one", "9_bounds_cut", "9_empty":

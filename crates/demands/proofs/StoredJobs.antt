@@ -18,6 +18,6 @@ stored-jobs = record {
   says = kept.kept-says;
   output = λ s. ap jobText (kept.kept-says s);
   once = kept.kept-once;
-  front-decides = kept.front-decides;
+  long-stays = kept.long-stays;
   fits = kept.fits;
 }

@@ -4,7 +4,7 @@
 -- and the first two fields tie it to 01's format; `jobOf` and `outputOf` are those of today's defaults.
 use Prim.Native.Nat.{ℕ, _≤_, _<_}
 use mathlib.Core.Path.{_≡_}
-use mathlib.Core.List.{List, _++_}
+use mathlib.Core.List.{List}
 use mathlib.Core.Option.{some}
 use lib.ListN.{length}
 use Rattle.refusals.specs.Results.{value, refused}
@@ -37,7 +37,6 @@ pub record StoredJobs : Type 0 where
   pub output : (s : List ℕ) → outputOf (keptOf s) ≡ outputBy oldDefaults s
   -- a second time nothing changes
   pub once : (s : List ℕ) → keptOf (keptOf s) ≡ keptOf s
-  -- in pieces: the longest job has 55 bytes, so 56 or more stay as they are, whatever comes behind them; and at most
-  -- 56 come out as at most 56
-  pub front-decides : (s t : List ℕ) → 55 < length s → keptOf (s ++ t) ≡ keptOf s ++ t
+  -- in pieces: the longest job has 55 bytes, so more stay as they are; and at most 56 come out as at most 56
+  pub long-stays : (s : List ℕ) → 55 < length s → keptOf s ≡ s
   pub fits : (s : List ℕ) → length s ≤ 56 → length (keptOf s) ≤ 56

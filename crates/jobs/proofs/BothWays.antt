@@ -26,7 +26,7 @@ use Rattle.jobs.proofs.Parts.{its-head}
 -- ---- a written field is found, and no other
 
 module _ (f : Field) (s : List ℕ) where
-  pub stands-written : stands (f .tag) (length (f .body)) (written f ++ s) ≡ true
+  stands-written : stands (f .tag) (length (f .body)) (written f ++ s) ≡ true
   unfolding stands
   stands-written =
       let n = length (f .body) in
@@ -41,7 +41,7 @@ module _ (f : Field) (s : List ℕ) where
   behind-written = rw (stands-written, rest-written f s)
 
   -- a field with another tag is not this one
-  pub not-stands : (k n : ℕ) → eqb (f .tag) k ≡ false → stands k n (written f ++ s) ≡ false
+  not-stands : (k n : ℕ) → eqb (f .tag) k ≡ false → stands k n (written f ++ s) ≡ false
   unfolding stands
   not-stands k n h = rw (head-written f s, h)
 
@@ -185,14 +185,15 @@ at-the-end (x ∷ s) h = absurd (omega arith)
 abbrev left : List ℕ → List ℕ
 left s = behind 6 2 (behind 5 2 (behind 4 8 (behind 3 8 (behind 2 16 (behind 1 1 s)))))
 
-abbrev whole : Options → List ℕ → Result Job
-whole d s1 =
+abbrev whole : List ℕ → Result Job
+whole s1 =
     let s2 = behind 1 1 s1 in
     let s3 = behind 2 16 s2 in
     let s4 = behind 3 8 s3 in
     let s5 = behind 4 8 s4 in
     let s6 = behind 5 2 s5 in
-    decoded (found 1 1 s1) (optionsOf d (found 2 16 s2) (found 3 8 s3) (found 4 8 s4) (found 5 2 s5) (found 6 2 s6))
+    decoded (found 1 1 s1)
+    (optionsOf defaultOptions (found 2 16 s2) (found 3 8 s3) (found 4 8 s4) (found 5 2 s5) (found 6 2 s6))
 
 formed : (s : List ℕ) → length (left s) ≡ 0 → Formed 0 s
 unfolding sizeOf
@@ -215,7 +216,7 @@ is-read true a j e = refl
 is-read false a j e = absurd (refused-not-value 9 j e)
 
 nothing-left : (s : List ℕ) (j : Job) → jobOf s ≡ value j → length (left s) ≡ 0
-nothing-left s j e = eqb-true (length (left s)) 0 (is-read (eqb (length (left s)) 0) (whole defaultOptions s) j e)
+nothing-left s j e = eqb-true (length (left s)) 0 (is-read (eqb (length (left s)) 0) (whole s) j e)
 
 -- ---- 01's row 9, "the job is malformed", by the format: a job is what the fields say that the bytes hold
 

@@ -1,8 +1,8 @@
 -- What `with_bounds` writes, for any bytes. A job comes out as its fields with the old bounds at their place
 -- (`job-kept`), so a job with bounds as it is (`bounds-stay`); and so does whatever is no job (`no-job-stays`). What
 -- comes out says with the new defaults what the bytes said with the old ones (`kept-says`), and is a job exactly where
--- they are (`kept-is-job`). Written a second time it stays (`kept-once`). 56 bytes or more stay as they are, whatever
--- comes behind them (`front-decides`), and what comes of at most 56 has no more (`fits`). Assumes nothing.
+-- they are (`kept-is-job`). Written a second time it stays (`kept-once`). More than 55 bytes stay as they are
+-- (`long-stays`), and what comes of at most 56 has no more (`fits`). Assumes nothing.
 use mathlib.Core.Path.{_≡_, refl, sym, ap, ap₂, _∙_, subst}
 use mathlib.Core.Bool.{Bool, true, false, not, false≢true}
 use mathlib.Core.List.{List, [], _∷_, _++_, append-assoc}
@@ -10,7 +10,7 @@ use mathlib.Core.Option.{some, none}
 use Prim.Native.Nat.{ℕ, _≤_, _<_}
 use native.Mathlib.Omega.{arith}
 use lib.Dec.{eqb}
-use lib.ListN.{length, take, drop, length-append}
+use lib.ListN.{length, take, drop}
 use borrow.Author.Tests.{eqb-true, eqb-false, lt-ltb, le-ltb}
 use Rattle.floats.proofs.Branches.{and-first}
 use Rattle.refusals.specs.Results.{Result, value, refused}
@@ -194,18 +194,12 @@ kept-once s = by-known (known s)
 -- ---- in pieces
 
 -- more than 55 bytes are no job
-long-stays : (s : List ℕ) → 55 < length s → keptOf s ≡ s
+pub long-stays : (s : List ℕ) → 55 < length s → keptOf s ≡ s
 long-stays s long = by-known (known s)
   where
     by-known : Known s → keptOf s ≡ s
     by-known (a-job j e q) = let l = jobs.longest s j e in absurd (omega arith)
     by-known (no-job h) = no-job-stays s h
-
--- what is behind 56 bytes is passed on as it is, and so are they
-pub front-decides : (s t : List ℕ) → 55 < length s → keptOf (s ++ t) ≡ keptOf s ++ t
-front-decides s t long =
-    let l : 55 < length (s ++ t) = simp length-append (omega arith) in
-    long-stays (s ++ t) l ∙ ap (λ (f : List ℕ). f ++ t) (sym (long-stays s long))
 
 -- what comes of at most 56 bytes has no more
 pub fits : (s : List ℕ) → length s ≤ 56 → length (keptOf s) ≤ 56
