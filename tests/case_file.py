@@ -1,7 +1,7 @@
 """Writes the fields of a case file, and cases whose answers come from a reply to each step."""
 import struct
 
-from model_cases import ANSWER, BACKTRACKING, DOT, HAGER_ZHANG, POINT, search_of
+from model_cases import ANSWER, BACKTRACKING, DOT, GROWING, HAGER_ZHANG, POINT, THREE_ANSWERS, WHOLE, search_of
 from exact import F
 from model_hagerzhang import DEFAULTS, NAMES
 
@@ -25,6 +25,19 @@ def params(**changed):
 
 def hager_zhang(params, f0, s0, b, n):
     return field(HAGER_ZHANG, words(*params, f0, s0) + struct.pack(">II", b, n))
+
+
+def whole(params, f0, s0, b, n, way, k, r):
+    return field(WHOLE, words(*params, f0, s0) + struct.pack(">IIBII", b, n, way, k, r))
+
+
+def three_answers(params, f0, s0, b, n, k=0, r=0):
+    """01's start as a whole one. K is not read."""
+    return whole(params, f0, s0, b, n, THREE_ANSWERS, k, r)
+
+
+def growing(params, f0, s0, b, n, k, r=0):
+    return whole(params, f0, s0, b, n, GROWING, k, r)
 
 
 def backtracks(c, rho, alpha, f0, s0, n):

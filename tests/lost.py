@@ -26,7 +26,7 @@ from case_file import answer, dot, hager_zhang, params, point
 from exact import NAN, ONE, F
 from lists_hagerzhang import endings
 from make_jobs import before, job
-from model_cases import BACKTRACKING, HAGER_ZHANG, expected, parsed
+from model_cases import SEARCHES, expected, parsed
 from model_lines import printed
 from native import over_native
 
@@ -257,7 +257,7 @@ def until(data):
     is not closed, as it has not ended."""
     cases, cut = parsed(data)
     lines = expected(data if cut is None else data[:cut]).decode().splitlines(True)
-    if cases and cases[-1][0][0] in (HAGER_ZHANG, BACKTRACKING):
+    if cases and cases[-1][0][0] in SEARCHES:
         del lines[-3:]
     return "".join(lines).encode()
 

@@ -7,7 +7,11 @@ import model_numbers
 from exact import INF, NAN, is_nan
 from model_lines import counts, line, number, printed
 
-ANSWER, HAGER_ZHANG, BACKTRACKING, DOT, POINT = 17, 32, 33, 34, 35
+WHOLE, ANSWER, HAGER_ZHANG, BACKTRACKING, DOT, POINT = 16, 17, 32, 33, 34, 35
+# the fields that begin a search
+SEARCHES = WHOLE, HAGER_ZHANG, BACKTRACKING
+# the ways of starting in a WHOLE
+THREE_ANSWERS, GROWING = 0, 1
 LONGEST = 511
 
 
@@ -17,9 +21,13 @@ def floats(body):
 
 
 def search_of(tag, body):
-    if tag == HAGER_ZHANG:
+    if tag in (WHOLE, HAGER_ZHANG):
         *params, f0, s0 = floats(body[:88])
-        return model_hagerzhang.Search(params, f0, s0, *struct.unpack(">II", body[88:]))
+        b, n = struct.unpack(">II", body[88:96])
+        if tag == HAGER_ZHANG:
+            return model_hagerzhang.Search(params, f0, s0, b, n)
+        way, k, r = struct.unpack(">BII", body[96:])
+        return model_hagerzhang.Search(params, f0, s0, b, n, k if way == GROWING else None, r)
     c1, c2, rho, alpha, f0, s0 = floats(body[1:49])
     return model_backtracking.Search((body[0], c1, c2), rho, alpha, f0, s0, *struct.unpack(">I", body[49:]))
 
@@ -63,6 +71,8 @@ def case_lines(fields):
 def well_formed(tag, body, searching):
     if tag == ANSWER:
         return searching and len(body) == 16
+    if tag == WHOLE:
+        return len(body) == 105 and body[96] in (THREE_ANSWERS, GROWING)
     if tag == HAGER_ZHANG:
         return len(body) == 96
     if tag == BACKTRACKING:
@@ -83,7 +93,7 @@ def parsed(data):
         head = data[at:at + 3]
         size = struct.unpack(">H", head[1:])[0] if len(head) == 3 else 0
         body = data[at + 3:at + 3 + size]
-        searching = bool(cases) and cases[-1][0][0] in (HAGER_ZHANG, BACKTRACKING)
+        searching = bool(cases) and cases[-1][0][0] in SEARCHES
         if len(head) < 3 or len(body) < size or not well_formed(head[0], body, searching):
             return cases, at
         if head[0] == ANSWER:

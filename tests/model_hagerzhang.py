@@ -2,6 +2,7 @@
 from exact import HALF, ONE, TWO, ZERO, F, absolute, add, div, is_finite, le, lt, mul, sub
 
 EPS = 0x3CB0000000000000
+FIVE = F(5)
 NAMES = "delta sigma epsilon theta gamma eta low high first".split()
 # 01's; of high 02, request 2: "The default becomes 64."
 DEFAULTS = [F(0.1), F(0.9), F(1e-6), HALF, F(0.66), F(0.01), EPS, F(64), ONE]
@@ -11,15 +12,20 @@ def secant(p, q):
     return div(sub(mul(p[0], q[2]), mul(q[0], p[2])), sub(q[2], p[2]))
 
 
-def refusal(params, f0, s0, b, n):
-    delta, sigma, epsilon, theta, gamma, eta, low, high, _ = params
-    if not all(map(is_finite, params + [f0, s0])):
+def refusal(params, f0, s0, b, n, growths, retries):
+    delta, sigma, epsilon, theta, gamma, eta, low, high, first = params
+    growing = growths is not None
+    bounds = [] if growing else [low, high]         # "The bounds are not read."
+    if not all(map(is_finite, params[:6] + bounds + [first, f0, s0])):
         return 2
     inside = lambda x: lt(ZERO, x) and lt(x, ONE)
     ok = inside(delta) and le(delta, sigma) and lt(sigma, ONE) and le(ZERO, epsilon) and inside(theta) and inside(gamma)
-    ok = ok and lt(ZERO, eta) and le(ZERO, low) and lt(low, high) and 1 <= b <= 1000 and 1 <= n <= 10000
+    ok = ok and lt(ZERO, eta) and 1 <= b <= 1000 and 1 <= n <= 10000 and retries == 0
+    ok = ok and (lt(ZERO, first) and 1 <= growths <= 400 if growing else le(ZERO, low) and lt(low, high))
     if not ok:
         return 3
+    if growing and le(ZERO, s0):
+        return 10
     e = mul(epsilon, absolute(f0))
     return 0 if is_finite(e) and is_finite(add(f0, e)) else 4
 
@@ -30,13 +36,14 @@ class Refused(Exception):
 
 class Search:
     """`first` is the start's outcome, and `held` the bracket's two points and the best, or None before the start is
-    in."""
+    in. `growths` is K, for the growing start of 02's request 3, or None for 01's start of three answers. `retries` is R,
+    which may only be 0 so far."""
 
-    def __init__(self, params, f0, s0, b, n):
+    def __init__(self, params, f0, s0, b, n, growths=None, retries=0):
         self.delta, self.sigma, self.epsilon, self.theta, self.gamma, _, self.low, self.high, self.start = params
-        self.f0, self.s0, self.b, self.n = f0, s0, b, n
+        self.f0, self.s0, self.b, self.n, self.growths = f0, s0, b, n, growths
         self.held, self.evaluations, self.iterations = None, 0, 0
-        refused = refusal(params, f0, s0, b, n)
+        refused = refusal(params, f0, s0, b, n, growths, retries)
         self.ended, self.steps = ("REFUSED", refused) if refused else None, self.run()
         self.first = self.ended or ("ASK", next(self.steps))
 
@@ -52,9 +59,7 @@ class Search:
         """The whole search: yields each step, and is sent cost and slope there."""
         self.level = add(self.f0, mul(self.epsilon, absolute(self.f0)))
         try:
-            a = yield from self.ask(self.low)
-            b = yield from self.ask(self.high)
-            c = yield from self.ask(self.start)
+            a, b, c = yield from (self.three_answers() if self.growths is None else self.growing())
             self.ended = self.settle(a, b, c)
             while self.ended is None:
                 a, b = yield from self.iteration(a, b)
@@ -62,6 +67,28 @@ class Search:
                 self.ended = self.settle(a, b, c)
         except Refused as r:
             self.ended = "REFUSED", r.args[0]
+
+    def three_answers(self):
+        a = yield from self.ask(self.low)
+        b = yield from self.ask(self.high)
+        c = yield from self.ask(self.start)
+        return a, b, c
+
+    def growing(self):
+        """The bracket that the growing start comes to, and the first trial, "the best's c"."""
+        zero = last = ZERO, self.f0, self.s0
+        first = this = yield from self.ask(self.start)
+        had = 0
+        while lt(this[2], ZERO) and le(this[1], self.level):
+            if had == self.growths:
+                raise Refused(11)
+            last = this
+            this = yield from self.trial(mul(last[0], FIVE))
+            had += 1
+        if le(ZERO, this[2]):
+            return last, this, first
+        a, b = yield from self.u3(zero, this[0])
+        return a, b, first
 
     def ask(self, x):
         f, g = yield x
