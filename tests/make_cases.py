@@ -9,20 +9,42 @@ under test is used.
 import sys
 
 import lists_backtracking
+import lists_growing
 import lists_hagerzhang
 import lists_vectors
 from case_file import answer, dot
 from exact import F
-from model_cases import expected
+from model_cases import GROWING, WHOLE, case_lines, expected, parsed
 
-SHOWN = ["ASK", "STOP wolfe", "STOP approximate", "STOP met", "LIMIT", *("REFUSED %d" % n for n in range(1, 9)),
+SHOWN = ["ASK", "STOP wolfe", "STOP approximate", "STOP met", "LIMIT",
+         *("REFUSED %d" % n for n in (1, 2, 3, 4, 5, 6, 7, 8, 10, 11)),
          "REFUSED 2 at 0", "REFUSED 2 at 256", "REFUSED 4 at 0", "REFUSED 4 at 255", "VALUE", "POINT", "OUT",
          "BRACKET none", "BEST none", "COUNTS", "MALFORMED"]
+# the last line of a growing search that is no REFUSED 8: without a bracket, and with one
+SHOWN_GROWING = {True: ["ASK", *("REFUSED %d" % n for n in (2, 3, 4, 5, 6, 7, 10, 11))],
+                 False: ["ASK", "STOP wolfe", "STOP approximate", "LIMIT", *("REFUSED %d" % n for n in (2, 5, 6, 7))]}
 
 
 def listed():
     """The cases, each once."""
-    return list(dict.fromkeys(lists_hagerzhang.listed() + lists_backtracking.listed() + lists_vectors.listed()))
+    lists = lists_hagerzhang, lists_backtracking, lists_vectors, lists_growing
+    return list(dict.fromkeys(case for made in lists for case in made.listed()))
+
+
+def begins(line, words):
+    return (line + " ").startswith(words + " ")
+
+
+def check_growing(cases):
+    """Every ending of the growing start, and of a search behind it, is there."""
+    seen = {True: [], False: []}
+    for case in cases:
+        if case[0] == WHOLE and case[3 + 96] == GROWING:
+            *told, bracket, _, _ = case_lines(parsed(case)[0][0])
+            seen[bracket == "BRACKET none"].append([line for line in told if line != "REFUSED 8"][-1])
+    for none, wanted in SHOWN_GROWING.items():
+        for words in wanted:
+            assert any(begins(line, words) for line in seen[none]), (none, words)
 
 
 def main(stdin, stdout):
@@ -31,7 +53,8 @@ def main(stdin, stdout):
     out = expected(data)
     lines = out.decode().split("\n")[:-1]
     for wanted in SHOWN:
-        assert any(line.startswith(wanted) for line in lines), wanted
+        assert any(begins(line, wanted) for line in lines), wanted
+    check_growing(cases)
     for path, what in ((stdin, data), (stdout, out)):
         with open(path, "wb") as f:
             f.write(what)

@@ -36,8 +36,8 @@ class Refused(Exception):
 
 class Search:
     """`first` is the start's outcome, and `held` the bracket's two points and the best, or None before the start is
-    in. `growths` is K, for the growing start of 02's request 3, or None for 01's start of three answers. `retries` is R,
-    which may only be 0 so far."""
+    in. `growths` is K for the growing start (02, request 3), and None for 01's start of three answers. `retries` is R,
+    which must be 0 until request 7."""
 
     def __init__(self, params, f0, s0, b, n, growths=None, retries=0):
         self.delta, self.sigma, self.epsilon, self.theta, self.gamma, _, self.low, self.high, self.start = params
