@@ -219,7 +219,8 @@ def polynomials(r):
             a = 0.25 * (1 + r.below(20))
             c = [r.below(9) - 4, -20 * a ** 3, 14.5 * a ** 2, -10 * a / 3, 0.25]
             first = (4.1 + 0.1 * r.below(9)) * a / 5 ** r.below(3)
-        yield on_plant(lambda x: polynomial(c, x), 30, 1 + r.below(8), n=1 + r.below(5), first=F(first), **chosen, **narrow)
+        k, n = 1 + r.below(8), 1 + r.below(5)
+        yield on_plant(lambda x: polynomial(c, x), 30, k, n=n, first=F(first), **chosen, **narrow)
 
 
 def free(r, count):

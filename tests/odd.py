@@ -12,7 +12,7 @@ answers, the lines for these, and the closing lines.
 Where nothing else is said: delta 0.25, sigma 0.5, epsilon 0, theta 0.5, gamma 0.5, bounds 0 and 4, start step 1,
 f0 = 1, s0 = -2. So L = 1, "wolfe" is f - 1 <= (0.25*x)*-2 with g >= -1, and "approximate" is 1 >= g >= -1 with f <= 1.
 START answers the first three asks: a = (0, 1, -2), b = (4, 9, 6), c = (1, 1, -2). Then c is best, no verdict holds by
-its slope, and S1 asks secant(a, b) = 8/8 = 1.
+its slope, and S1 asks secant(a, b) = 8/8 = 1. A growing start has K = 2, and both bounds are 0.
 """
 import sys
 
@@ -34,10 +34,23 @@ def floats(*xs):
     return [F(x) for x in xs]
 
 
-def hz(delta=0.25, sigma=0.5, epsilon=0.0, theta=0.5, gamma=0.5, eta=0.01, low=0.0, high=4.0, start=1.0,
-       f0=1.0, s0=-2.0, B=100, N=100):
-    params = floats(delta, sigma, epsilon, theta, gamma, eta, low, high, start)
-    return case_file.hager_zhang(params, *floats(f0, s0), B, N)
+def numbers(delta=0.25, sigma=0.5, epsilon=0.0, theta=0.5, gamma=0.5, eta=0.01, low=0.0, high=4.0, start=1.0,
+            f0=1.0, s0=-2.0, B=100, N=100):
+    """Those of a Hager-Zhang start, in the order of its field."""
+    return floats(delta, sigma, epsilon, theta, gamma, eta, low, high, start), *floats(f0, s0), B, N
+
+
+def hz(**named):
+    return case_file.hager_zhang(*numbers(**named))
+
+
+def grow(K=2, R=0, **named):
+    return case_file.growing(*numbers(**{"low": 0.0, "high": 0.0, **named}), K, R)
+
+
+def three(K=0, R=0, **named):
+    """01's start in a field 16."""
+    return case_file.three_answers(*numbers(**named), K, R)
 
 
 def bt(condition, c1, c2=0.0, rho=0.5, alpha=1.0, f0=1.0, s0=-2.0, N=100):
@@ -309,6 +322,68 @@ CASES = [
      dot([HUGE, HUGE, NAN], [1, 1, 1]), [], "CASE 74 | REFUSED 2 at 2", ""),
     ("first-element-of-two-that-overflow", "for 4, the first index whose partial sum or element is not finite",
      point([1, HUGE, HUGE], 1.0, [1, HUGE, HUGE], 3), [], "CASE 75 | REFUSED 4 at 1 | OUT 7FF. 7FF. 7FF.", ""),
+    # the growing start (02, request 3): how it ends
+    ("minus-zero-slope-at-the-first-trial", "slope >= 0: the bracket runs from .. 0 to it; The bounds are not read.",
+     grow(low=NAN, high=-INF), [(3, -0.0)],
+     "CASE 76 | ASK 3FF. | ASK 3FF.",
+     "BRACKET 0. 3FF. C. 3FF. 4008. 8. | BEST 0. 3FF. C. | COUNTS evaluations 1 iterations 0"),
+    ("c-is-neither-end", "cost > L; from the last earlier trial .. to it; The best's c is the first trial.",
+     grow(), [(0.5, -2), (1, -2), (9, 6)],
+     "CASE 77 | ASK 3FF. | ASK 4014. | ASK 4039. | ASK 4024.",
+     "BRACKET 4014. 3FF. C. 4039. 4022. 4018. | BEST 3FF. 3FE. C. | COUNTS evaluations 3 iterations 0"),
+    ("the-last-trial-ends-it", "multiply the step by 5 and ask again, at most K times", grow(K=1), [(1, -2), (0.5, 0)],
+     "CASE 78 | ASK 3FF. | ASK 4014. | STOP approximate 4014. evaluations 2 iterations 0",
+     "BRACKET 3FF. 3FF. C. 4014. 3FE. 0. | BEST 4014. 3FE. 0. | COUNTS evaluations 2 iterations 0"),
+    ("U3-from-0-behind-a-growth", "If its slope < 0 and its cost > L, run U3 from 0 to it.",
+     grow(), [(1, -2), (3, -1), (0.5, -2), (2, 2)],
+     "CASE 79 | ASK 3FF. | ASK 4014. | ASK 4004. | ASK 400E. | ASK 4009.",
+     "BRACKET 4004. 3FE. C. 400E. 4. 4. | BEST 4004. 3FE. C. | COUNTS evaluations 4 iterations 0"),
+    ("B-th-answer-ends-the-start", "run U3 from 0 to it; 6: .. the last did not end it",
+     grow(start=2.0, B=1), [(3, -1), (0, 0)],
+     "CASE 80 | ASK 4. | ASK 3FF. | STOP wolfe 3FF. evaluations 2 iterations 0",
+     "BRACKET 0. 3FF. C. 3FF. 0. 0. | BEST 3FF. 0. 0. | COUNTS evaluations 2 iterations 0"),
+    ("stop-at-0", "the low end is step 0 with f0 and s0; wolfe if best.f - f0 <= (delta*best.x)*s0 and best.g >="
+     " sigma*s0, every operation rounded once", grow(sigma=0.75, s0=-TINY), [(3, 5)],
+     "CASE 81 | ASK 3FF. | STOP wolfe 0. evaluations 1 iterations 0",
+     "BRACKET 0. 3FF. 8000000000000001 3FF. 4008. 4014. | BEST 0. 3FF. 8000000000000001"
+     " | COUNTS evaluations 1 iterations 0"),
+    ("first-trial-stays-c", "The best's c is the first trial; never a later trial",
+     grow(N=1), [(0.5, -2), (9, 6), (1, -1), (9, 6)],
+     "CASE 82 | ASK 3FF. | ASK 4014. | ASK 4. | ASK 4008. | LIMIT 3FF. evaluations 4 iterations 1",
+     "BRACKET 4. 3FF. BFF. 4008. 4022. 4018. | BEST 3FF. 3FE. C. | COUNTS evaluations 4 iterations 1"),
+    # what ends a search within it
+    ("11-before-5", "11, before 5, if K growths are used up; no bracket and no best",
+     grow(K=1, start=HUGE / 8), [(1, -2), (1, -2), (1, 1)],
+     "CASE 83 | ASK 7FB. | ASK 7FD4. | REFUSED 11 | REFUSED 8",
+     "BRACKET none | BEST none | COUNTS evaluations 2 iterations 0"),
+    ("5-with-a-growth-left", "5: the next trial step comes out not finite; nothing is asked",
+     grow(start=HUGE / 8), [(1, -2), (1, -2)],
+     "CASE 84 | ASK 7FB. | ASK 7FD4. | REFUSED 5",
+     "BRACKET none | BEST none | COUNTS evaluations 2 iterations 0"),
+    ("nothing-between-0-and-the-trial", "7: U3's next step is not strictly between its two ends; nothing is asked",
+     grow(start=TINY), [(3, -1), (1, 1)],
+     "CASE 85 | ASK 0000000000000001 | REFUSED 7 | REFUSED 8",
+     "BRACKET none | BEST none | COUNTS evaluations 1 iterations 0"),
+    ("6-before-7-in-the-start", "After a finite B-th answer, 6 comes before 5 and 7",
+     grow(start=2 * TINY, B=1), [(3, -1), (3, -1)],
+     "CASE 86 | ASK 0000000000000002 | ASK 0000000000000001 | REFUSED 6",
+     "BRACKET none | BEST none | COUNTS evaluations 2 iterations 0"),
+    ("NaN-at-the-second-trial", "A search ended within this start has no bracket and no best.",
+     grow(), [(1, -2), (NAN, 1)],
+     "CASE 87 | ASK 3FF. | ASK 4014. | REFUSED 2",
+     "BRACKET none | BEST none | COUNTS evaluations 1 iterations 0"),
+    # what it refuses, and in what order
+    ("minus-zero-s0-and-L-overflows", "10, after 3 and before 4, if s0 >= 0",
+     grow(s0=-0.0, epsilon=1.0, f0=HUGE), [(1, 1)], "CASE 88 | REFUSED 10 | REFUSED 8", NONE),
+    ("K-0-and-s0-0", "3 for a bad K; 10, after 3", grow(K=0, s0=0.0), [], "CASE 89 | REFUSED 3", NONE),
+    ("start-step-minus-zero", "3 for .. a start step not above 0", grow(start=-0.0), [], "CASE 90 | REFUSED 3", NONE),
+    ("K-401-and-NaN-theta", "then 1, 9, 2, 3, 4 in that order",
+     grow(K=401, theta=NAN), [], "CASE 91 | REFUSED 2", NONE),
+    ("s0-just-below-0", "10 .. if s0 >= 0; K from 1 to 400", grow(K=400, s0=-TINY), [], "CASE 92 | ASK 3FF.", NONE),
+    ("three-answers-by-a-field-16", "The sign of s0 is not checked; the field's K is not read here (docs/FORMATS.md)",
+     three(K=401, s0=0.0), [], "CASE 93 | ASK 0.", NONE),
+    ("three-answers-with-R-1", "3: .. outside its range, for any R but 0 (docs/FORMATS.md); 3 before 4",
+     three(R=1, epsilon=1.0, f0=HUGE), [], "CASE 94 | REFUSED 3", NONE),
 ]
 
 
