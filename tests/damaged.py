@@ -24,6 +24,7 @@ import sys
 import tempfile
 import time
 
+import lists_growing
 import make_cases
 import make_jobs
 from case_file import answer, dot, field, hager_zhang, params, played, point, words
@@ -44,7 +45,8 @@ COUNTS = "evaluations [0-9]{1,10} iterations [0-9]{1,10}"
 OUTCOME = "ASK {n}|STOP (?:wolfe|approximate|met) {n} {c}|LIMIT {n} {c}|REFUSED [1-9]".format(n=NUMBER, c=COUNTS)
 CASE_LINE = "|".join((
     "CASE [1-9][0-9]*", "{o}", "BRACKET (?:none|{n}(?: {n}){{5}})", "BEST (?:none|{n} {n} {n})", "COUNTS {c}",
-    "VALUE {n}", "POINT", "REFUSED [24] at [0-9]{{1,3}}", "OUT(?: {n}){{0,511}}", "MALFORMED at [0-9]+",
+    "REFUSED 1[01]", "VALUE {n}", "POINT", "REFUSED [24] at [0-9]{{1,3}}", "OUT(?: {n}){{0,511}}",
+    "MALFORMED at [0-9]+",
 )).format(o=OUTCOME, n=NUMBER, c=COUNTS)
 
 
@@ -65,7 +67,9 @@ def relying():
 
 
 def cases():
-    """A few short cases with every kind of field and line."""
+    """A few short cases with every kind of field and line. Of the growing searches one stops, one runs U3 and is
+    refused behind it, and one is refused by 11; a damaged s0 brings 10."""
+    grown = lists_growing.endings()
     return [
         endings()[0],
         endings()[2],
@@ -74,25 +78,29 @@ def cases():
         played(start(FINE[2], 4, alpha=F(8)), lambda x, i: curve(1, x), 9, 2),
         point([F(1)], F(2), [F(3)], 1),
         point([], F(2), [F(3)], 2),
+        lists_growing.as_whole(endings()[0][:99], 2),
+        grown[0], grown[3], grown[-1],
     ]
 
 
 def malformed():
     """Files that end malformed, one way each; what is before is well-formed."""
-    hz, bt = endings()[0], start(FINE[0], 3)
+    hz, bt, grown = endings()[0], start(FINE[0], 3), lists_growing.endings()[0]
     d, p, y = dot([F(1)], [F(2)]), point([F(1)], F(2), [F(3)], 1), answer(F(1), F(1))
     long = [F(1)] * 512
-    ends = [field(0, b""), field(1, b"\1"), field(16, words(0, 0)), field(18, words(0, 0))]
+    ends = [field(0, b""), field(1, b"\1"), field(15, words(0, 0)), field(18, words(0, 0))]
     ends += [field(31, b""), field(36, b""), field(255, b"")]
-    for tag, size in ((17, 16), (32, 96), (33, 53), (34, 4), (35, 14)):
+    for tag, size in ((16, 105), (17, 16), (32, 96), (33, 53), (34, 4), (35, 14)):
         ends += [field(tag, bytes(n)) for n in (0, 1, size - 1, size + 1, size + 8, 256 + size, 65535)]
     ends += [d[:3] + b"\0\2" + d[5:], p[:3] + b"\0\2" + p[5:], dot([0], long), dot(long, [0])]
     ends += [point(long, 0, [0], 1), point([0], 0, long, 1), point([0], 0, [0], 512)]
     ends += [field(34, struct.pack(">HH", 65535, 1) + bytes(8))]
     ends += [field(35, struct.pack(">HHH", 1, 1, 65535) + bytes(24))]
     ends += [bt[:3] + bytes([k]) + bt[4:] for k in (0, 5, 255)]
+    ends += [grown[:99] + bytes([way]) + grown[100:] for way in (2, 16, 255)]
     ends += [y[:-1], y[:2], y[:1], hz[:98], bt[:55], d[:-1], p[:-1], dot(long[:511], long[:511])[:-1]]
-    files = [before + e for before in (b"", hz, bt, d) for e in ends]
+    ends += [grown[:n] for n in (99, 100, 107)]
+    files = [before + e for before in (b"", hz, grown, bt, d) for e in ends]
     return files + [y, d + y, p + y, hz + y + d + y, bt + y + p + y, hager_zhang([NAN] * 9, 0, 0, 1, 1) + y + d + y]
 
 

@@ -18,11 +18,11 @@ import sys
 import tempfile
 import time
 
-from case_file import answer, backtracks, dot, field, hager_zhang, params, point
+from case_file import answer, backtracks, dot, field, growing, hager_zhang, params, point
 from exact import NAN, ONE, TWO, ZERO, F, Random
 from make_examples import fan, plant
 from model_backtracking import ARMIJO, GOLDSTEIN, STRONG, WOLFE
-from model_cases import ANSWER, DOT, POINT, case_lines, search_of
+from model_cases import ANSWER, DOT, POINT, WHOLE, case_lines, search_of
 from model_lines import line
 
 LIMIT_SECONDS = 30
@@ -157,30 +157,43 @@ def chillers(r, count):
         yield hager_zhang(p, *reply(ZERO), 100, 1 + r.below(100)), reply
 
 
+def growers(r, count):
+    """Plants whose search grows from a small step. In every fourth a sensor dies; in every fifth no pump makes the
+    slope rise, so that it grows to the last; in every sixth there is no chiller, and so no slope at 0."""
+    for i in range(count):
+        dead = F(0.1 * (1 + r.below(20))) if i % 4 == 3 else F(1e9)
+        chiller, pump = F(0.25 * (1 + r.below(40)) * (i % 6 != 5)), F(0.125 * (1 + r.below(40)) * (i % 5 != 4))
+        reply = plant(chiller, pump, dead)
+        p = params(low=NAN, high=ZERO, first=F(0.001 * (1 + r.below(1000))))
+        yield growing(p, *reply(ZERO), 100, 1 + r.below(100), 1 + r.below(9)), reply
+
+
 FANS = [(ARMIJO, F(1e-4), ZERO), (GOLDSTEIN, F(0.25), ZERO), (WOLFE, F(1e-4), F(0.9)), (STRONG, F(1e-4), F(0.1)),
         (WOLFE, F(0.9), F(0.1))]
 
 
 def talk(d):
     endings = {}
-    for start, reply in list(chillers(Random(7), 60)) + [
+    for start, reply in list(chillers(Random(7), 60)) + list(growers(Random(10), 40)) + [
             (backtracks(c, F(0.9), F(a), *fan(ZERO), 100), fan) for c in FANS for a in (1, 8)]:
         word = " ".join(d.play(start, reply).split()[:2])
         word = word if word[0] in "SR" else "LIMIT"
         endings[word] = endings.get(word, 0) + 1
-    if not {"STOP wolfe", "STOP met", "REFUSED 2", "REFUSED 3"} <= set(endings):
+    if not {"STOP wolfe", "STOP met", "REFUSED 2", "REFUSED 3", "REFUSED 10", "REFUSED 11"} <= set(endings):
         d.wrong("the plants did not bring each ending: %s" % endings)
     return endings
 
 
 def halves(d):
     """Fields that come in two parts, cut in the head, at its end, in the body and before the last byte."""
-    start, reply = next(chillers(Random(8), 1))
+    slow = plant(TWO, ONE, F(100))
+    from_small = growing(params(first=F(0.001)), *slow(ZERO), 9, 9, 9)
+    for start, reply in (from_small, slow), next(chillers(Random(8), 1)):
+        for at in 1, 2, 3, 50, len(start) - 9, len(start) - 1:
+            heard = d.say_in_halves(start, at)
+        for at in 1, 2, 3, 11, 18:
+            heard = d.say_in_halves(answer(*reply(int(heard.split()[1], 16))), at)
     longest = point([ONE] * 511, TWO, [ONE] * 511, 511)
-    for at in 1, 2, 3, 50, len(start) - 1:
-        heard = d.say_in_halves(start, at)
-    for at in 1, 2, 3, 11, 18:
-        heard = d.say_in_halves(answer(*reply(int(heard.split()[1], 16))), at)
     # an answer, and with it a part of what comes next
     for following in (answer(NAN, ZERO), answer(ONE, ONE), dot([ONE, TWO], [TWO, F(3)]), longest):
         d.say(start)
@@ -212,9 +225,10 @@ def main(given):
         d.p.stdin.close()
         d.end(d.closing())
         said = d.cases, d.lines
-    # a malformed field ends the dialogue while the input is open: a whole one, and heads that no field has, among them
-    # those of a start and an answer whose lengths have their bytes turned round
-    for malformed in field(0, b""), b"\x63\xff\xff", b"\x20\x60\x00", b"\x11\x10\x00", b"\x22\x20\x00":
+    # a malformed field ends the dialogue while the input is open: whole ones, the second a start in no known way, and
+    # heads that no field has, among them those of starts and an answer whose lengths have their bytes turned round
+    heads = b"\x63\xff\xff", b"\x10\x69\x00", b"\x20\x60\x00", b"\x11\x10\x00", b"\x22\x20\x00"
+    for malformed in field(0, b""), field(WHOLE, bytes(96) + b"\x02" + bytes(8)), *heads:
         with tempfile.TemporaryFile() as errors, Dialogue(program, errors) as d:
             d.say(start, answer(ONE, ONE))
             d.send(malformed)

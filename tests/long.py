@@ -33,8 +33,8 @@ import termios
 import threading
 import time
 
-from case_file import answer, backtracks, dot, hager_zhang, params, point
-from exact import MAX, NAN, ONE, ZERO, F, Random
+from case_file import answer, backtracks, dot, growing, hager_zhang, params, point
+from exact import MAX, NAN, ONE, SIGN, ZERO, F, Random
 from lists_hagerzhang import endings
 from make_jobs import before, job, stored
 from model_backtracking import ARMIJO
@@ -119,8 +119,8 @@ def limit_job(k, low, high, first):
 # ---- fields that are cut
 
 def cut_fields():
-    """The longest point and dot, whose lengths alone are read, since they are refused; and a point and a dot whose
-    every number counts."""
+    """The longest point and dot, whose lengths alone are read, since they are refused; a point and a dot whose every
+    number counts; and the longest start."""
     r = Random(5)
     long, full = [[r.like() for _ in range(n)] for n in (511, 256)]
     return [
@@ -128,6 +128,7 @@ def cut_fields():
         ("dot of 511", dot(long, long)),
         ("point of 256", point(full, r.like(), full[::-1], 256)),
         ("dot of 256", dot(full, full[1:] + full[:1])),
+        ("growing start", growing(params(low=NAN, first=full[0] & ~SIGN), full[1], full[2] | SIGN, 5, 6, 7)),
     ]
 
 
@@ -200,6 +201,7 @@ def many_fields(answers, cases):
         backtracks((ARMIJO, F(0.1), ZERO), F(0.9), ONE, ONE, F(-1), 5) + answer(F(9), ZERO) + answer(ZERO, ZERO),
         hager_zhang(params(), ONE, F(-1), 5, 5) + answer(ONE, ONE),
         hager_zhang(params(epsilon=MAX), F(3), ONE, 5, 5),
+        growing(params(), ONE, F(-1), 5, 5, 1) + answer(ZERO, F(-1)) * 3,
         backtracks((ARMIJO, F(0.1), ZERO), F(0.9), ONE, NAN, F(-1), 5) + answer(ONE, ONE),
     ]
     texts = [printed(case_lines(parsed(case)[0][0])) for case in short]

@@ -22,6 +22,7 @@ import subprocess
 import sys
 import tempfile
 
+import lists_growing
 from case_file import answer, dot, hager_zhang, params, point
 from exact import NAN, ONE, F
 from lists_hagerzhang import endings
@@ -271,6 +272,9 @@ def cases_broken_off(s):
     start = endings()[0]
     for n in [0, 1, 2, 3, 98, 99, 100, 117, 118, 119, 136, 137, len(start)]:
         broken_off(s, start[:n], until(start[:n]))
+    grown = lists_growing.endings()[0]
+    for n in [98, 99, 107, 108, 109, 127, len(grown)]:
+        broken_off(s, grown[:n], until(grown[:n]))
     refused = hager_zhang(params(), F(1), NAN, 1, 1) + answer(ONE, ONE)
     for data in refused, dot([ONE], [ONE]), dot([ONE], [ONE]) + start[:120], s.data[:70000], s.data[:90001]:
         broken_off(s, data, until(data))
