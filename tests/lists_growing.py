@@ -1,5 +1,5 @@
-"""Cases of the growing start (02, request 3): how it ends, what it refuses, and what follows it. And 01's start by the
-same field."""
+"""Cases of the growing start (02, request 3): how it ends, what it refuses, and what follows it; and of 01's start by
+the same field."""
 from itertools import product
 
 from case_file import answer, cuts, field, growing, params, played, three_answers
@@ -9,6 +9,7 @@ from lists_hagerzhang import COUNTS, LEVELS, RANGES, SMALL
 from lists_hagerzhang import endings as by_three_answers
 from model_cases import WHOLE
 from model_curves import NUMBERS, curve
+from model_hagerzhang import NAMES
 
 # With f0 = 1, s0 = -2 and epsilon 1/4, L is 5/4. At a trial DOWN grows the step, HIGH begins U3 and UP ends the start;
 # in U3 DOWN moves the low end, HIGH the high end, and UP ends it. MORE is for what is asked behind the start. None of
@@ -21,6 +22,11 @@ MOST = 4294967295
 def grows(k=3, f0=ONE, s0=F(-2), b=9, n=9, r=0, **changed):
     """A growing start. Its bounds are zeros where nothing else is said; 01's start refuses such."""
     return growing(params(**{"epsilon": F(0.25), "low": ZERO, "high": ZERO, **changed}), f0, s0, b, n, k, r)
+
+
+def three(k=0, f0=ONE, s0=F(-2), b=9, n=9, r=0, **changed):
+    """01's start by the same field."""
+    return three_answers(params(**changed), f0, s0, b, n, k, r)
 
 
 def answered(start, *replies):
@@ -95,7 +101,8 @@ def overflows():
 
 
 def stalls():
-    """U3 among the smallest floats, to the stall or to the budget; 6 goes before 7."""
+    """U3 from 0 to so many of the smallest float, which is a pattern: to the stall or to the budget; 6 goes before
+    7."""
     for units, theta, move in product((1, 2, 3, 6), (HALF, F(0.1), F(0.9)), (DOWN, HIGH)):
         for b in (1, 2, 9) if theta == HALF else (9,):
             yield played(grows(b=b, first=units, theta=theta), lambda x, i: move if i else HIGH, 12)
@@ -113,44 +120,36 @@ def not_finite():
 
 
 def starts():
-    """Every number not finite in turn, with other faults beside it in some; every range at its ends; K and R."""
+    """Every number not finite in turn, most of them beside a fault that 2 goes before; every range at its ends; the
+    bounds, which 01's start alone reads; K, which it does not read; R."""
     cases = []
-    for i in range(11):
-        for j, bad in enumerate(NOT_FINITE):
-            p = params(low=ZERO, high=ZERO) + [ONE, [F(-1), ZERO][j == 3]]
-            p[i] = bad
-            cases.append(answered(growing(p[:9], *p[9:], 9, 9, 3 * (j != 1), j == 2), *[UP] * (i % 3)))
-        for j, bad in enumerate(NOT_FINITE[:3]):
-            p = params() + [ONE, F(-1)]
-            p[i] = bad
-            cases.append(three_answers(p[:9], *p[9:], 9, 9, r=j == 2))
+    for name in NAMES + ["f0", "s0"]:
+        for bad, beside in zip(NOT_FINITE, ({}, {"k": 0}, {"r": 1}, {"s0": ZERO}, {"first": SIGN})):
+            cases.append(answered(grows(**{**beside, name: bad}), UP))
+        cases += [three(**{"r": r, name: bad}) for bad, r in zip(NOT_FINITE[:3], (0, 0, 1))]
     ones = lambda x, i: (ONE, ONE)
     cases += [played(growing(params(**changed), F(3), F(-1), 9, 9, 3), ones, 2) for changed in RANGES]
     ends = [ZERO, SIGN, TINY, SIGN | TINY, ONE, F(-1), MAX, SIGN | MAX]
     cases += [played(grows(first=first), ones, 2) for first in ends]
     cases += [played(grows(s0=s0), ones, 2) for s0 in ends]
-    bounds = [(NAN, NAN), (F(-1), NAN), (SIGN | INF, INF), (F(4), F(1)), (ZERO, F(4))]
-    for low, high in bounds:
-        cases.append(answered(grows(low=low, high=high), DOWN, UP, MORE))
-        cases.append(answered(three_answers(params(low=low, high=high), ONE, F(-2), 9, 9), DOWN, UP))
+    for low, high in ((NAN, NAN), (F(-1), NAN), (SIGN | INF, INF), (F(4), ONE), (ZERO, F(4))):
+        cases += [answered(start(low=low, high=high), DOWN, UP, MORE) for start in (grows, three)]
     counts = [0, 1, 2, 5, 6, 256, 400, 401, 65537, 16777216, MOST]
-    cases += [answered(grows(k), DOWN, DOWN, DOWN) for k in counts]
-    cases += [answered(grows(r=r), DOWN) for r in counts]
-    cases += [answered(three_answers(params(), ONE, F(-2), 9, 9, k, r), DOWN) for k in (0, 400, 401, MOST)
-              for r in (0, 1, MOST)]
+    cases += [answered(grows(k), DOWN, DOWN, DOWN) for k in counts] + [answered(grows(r=r), DOWN) for r in counts]
+    cases += [answered(three(k, r=r), DOWN) for k in (0, 400, 401, MOST) for r in (0, 1, MOST)]
     return cases + [answered(grows(b=b, n=n), HIGH, HIGH) for b, n in COUNTS]
 
 
 def orders():
-    """Refusals that compete: 2, 3, 10 and 4 each there or not, and 3 in every way that is new."""
+    """Refusals that compete: 2, 3, 10 and 4 each there or not, and 3 for each number that is new. 01's start has no
+    10."""
     thirds = [{}, {"k": 0}, {"first": SIGN}, {"r": 1}, {"delta": ONE}]
     fourths = [{"f0": f0, "epsilon": epsilon} for f0, epsilon in LEVELS]
     for second, third, tenth, fourth in product(({}, {"gamma": NAN}), thirds, ({}, {"s0": SIGN}), ({}, fourths[0])):
         yield answered(grows(**second, **third, **tenth, **fourth), UP)
+        yield answered(three(**second, **third, **tenth, **fourth), UP)
     for fourth in fourths:
-        yield answered(grows(**fourth), UP)
-    for bad, r, (f0, epsilon), s0 in product((ONE, NAN), (0, 1), LEVELS[:2], (ZERO, F(-1))):
-        yield answered(three_answers(params(epsilon=epsilon, first=bad), f0, s0, 9, 9, 0, r), UP)
+        yield from (answered(grows(s0=s0, **fourth), UP) for s0 in (F(-2), ZERO, ONE))
 
 
 def bests():
