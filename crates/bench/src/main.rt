@@ -9,9 +9,11 @@ use hagerzhang::Search;
 use hagerzhang::Stage;
 use hagerzhang::Started;
 use hagerzhang_decisions::parameters;
+use hagerzhang_rules::Bounds;
 use hagerzhang_rules::Options;
 use hagerzhang_rules::Params;
 use hagerzhang_rules::Setup;
+use hagerzhang_rules::Way;
 use runs::Evaluations;
 use runs::Outcome;
 
@@ -32,10 +34,12 @@ fn chosen() -> Options {
             theta: p.theta,
             gamma: p.gamma,
             eta: p.eta,
-            min: 0.0,
-            max: 64.0,
             start: 0.7,
         },
+        way: Way::Bounded(Bounds {
+            min: 0.0,
+            max: 64.0,
+        }),
         budget: d.budget,
         limit: d.limit,
     }

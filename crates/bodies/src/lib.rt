@@ -1,12 +1,14 @@
 // The fields of a case file: what the body of each says.
 
 use conditions::Condition;
+use hagerzhang_rules::Bounds;
 use hagerzhang_rules::Params;
+use hagerzhang_rules::Way;
 ghost use mathlib.Core.Path.{_≡_};
 ghost use Prim.Native.Nat.{_≤_};
 ghost use lib.ListN.{length, drop};
-ghost use Rattle.bodies.specs.Bodies.{floatAt, quadAt, paramsOf, hagerZhangOf};
-ghost use Rattle.bodies.specs.Bodies.{conditionOf, backtrackingOf, answerOf, floatsOf};
+ghost use Rattle.bodies.specs.Bodies.{floatAt, quadAt, paramsOf, boundsOf, startWith, hagerZhangOf};
+ghost use Rattle.bodies.specs.Bodies.{wayOf, limitOf, wholeOf, conditionOf, backtrackingOf, answerOf, floatsOf};
 
 // A start: its options, and cost and slope at step 0.
 pub struct HagerZhangStart {
@@ -50,29 +52,73 @@ fn params(body: &[u8]) -> Params
         theta: float(body, 24),
         gamma: float(body, 32),
         eta: float(body, 40),
-        min: float(body, 48),
-        max: float(body, 56),
         start: float(body, 64),
     }
 }
 
-pub fn hager_zhang(body: &[u8]) -> HagerZhangStart
-    ensures { λ r. ⌜ r ≡ hagerZhangOf (now (body .entry)) ⌝ }
+fn bounds(body: &[u8]) -> Bounds
+    ensures { λ r. ⌜ r ≡ boundsOf (now (body .entry)) ⌝ }
+{
+    Bounds {
+        min: float(body, 48),
+        max: float(body, 56),
+    }
+}
+
+// What both starts have alike, with a way and an N.
+fn start_with(body: &[u8], way: Way, limit: u32) -> HagerZhangStart
+    ensures { λ r. ⌜ r ≡ startWith (now (body .entry)) way limit ⌝ }
 {
     let p = params(body);
     let f0 = float(body, 72);
     let s0 = float(body, 80);
     let budget = quad(body, 88);
-    let limit = quad(body, 92);
     HagerZhangStart {
         options: hagerzhang_rules::Options {
             params: p,
+            way,
             budget,
             limit,
         },
         f0,
         s0,
     }
+}
+
+pub fn hager_zhang(body: &[u8]) -> HagerZhangStart
+    ensures { λ r. ⌜ r ≡ hagerZhangOf (now (body .entry)) ⌝ }
+{
+    let limit = quad(body, 92);
+    start_with(body, Way::Bounded(bounds(body)), limit)
+}
+
+// Where it is growing, min and max are not read.
+fn way(body: &[u8]) -> Way
+    ensures { λ r. ⌜ r ≡ wayOf (now (body .entry)) ⌝ }
+{
+    if wire::byte(body, 96) == 0 {
+        return Way::Bounded(bounds(body));
+    }
+    Way::Growing(quad(body, 97))
+}
+
+// N; or 0, which no search may have, where R is not 0. No search has an R: any other is refused (3), as N is, and in
+// its place.
+fn limit(body: &[u8]) -> u32
+    ensures { λ r. ⌜ r ≡ limitOf (now (body .entry)) ⌝ }
+{
+    if quad(body, 101) == 0 {
+        return quad(body, 92);
+    }
+    0
+}
+
+pub fn whole(body: &[u8]) -> HagerZhangStart
+    ensures { λ r. ⌜ r ≡ wholeOf (now (body .entry)) ⌝ }
+{
+    let begins = way(body);
+    let last = limit(body);
+    start_with(body, begins, last)
 }
 
 fn condition(kind: u8, c1: f64, c2: f64) -> Condition

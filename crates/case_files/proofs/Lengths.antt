@@ -15,6 +15,7 @@ use Rattle.fields.specs.declared.Heading.the-variants.{Tagged, Cut}
 use Rattle.fields.specs.Fields.{headOf, bodyOf}
 use Rattle.case_files.specs.declared.Field.{Field}
 use Rattle.case_files.specs.declared.Field.the-variants.{
+  StartWhole,
   StartHagerZhang,
   StartBacktracking,
   Answer,
@@ -24,6 +25,7 @@ use Rattle.case_files.specs.declared.Field.the-variants.{
 }
 use Rattle.case_files.specs.CaseFiles.{
   isLength,
+  isWay,
   isCondition,
   dotField,
   pointField,
@@ -36,6 +38,7 @@ use Rattle.case_files.specs.CaseFiles.{
 
 -- of a field whose body has this size
 abbrev Sound : ℕ → Field → Type 0
+Sound size StartWhole = size ≤ 8190
 Sound size StartHagerZhang = size ≤ 8190
 Sound size StartBacktracking = size ≤ 8190
 Sound size Answer = size ≤ 8190
@@ -80,6 +83,11 @@ answer-sound size searching =
     chosen (Sound size) (searching && eqb size 16) Answer Malformed
     (λ e. let s = eqb-true size 16 (and-second searching (eqb size 16) e) in omega arith) tt
 
+whole-sound : (size : ℕ) (b : Bool) → Sound size (cond (eqb size 105 && b) StartWhole Malformed)
+whole-sound size b =
+    chosen (Sound size) (eqb size 105 && b) StartWhole Malformed
+    (λ e. let s = eqb-true size 105 (and-first (eqb size 105) b e) in omega arith) tt
+
 hager-zhang-sound : (size : ℕ) → Sound size (cond (eqb size 96) StartHagerZhang Malformed)
 hager-zhang-sound size =
     chosen (Sound size) (eqb size 96) StartHagerZhang Malformed
@@ -96,15 +104,17 @@ tagged-sound tag body searching =
     let size = length body in
     let n = pairOf body in
     let m = pairOf (drop 2 body) in
-    chosen (Sound size) (eqb tag 17) _ _ (λ e. answer-sound size searching)
+    chosen (Sound size) (eqb tag 16) _ _ (λ e. whole-sound size (isWay (byteAt body 96)))
+    (chosen (Sound size) (eqb tag 17) _ _ (λ e. answer-sound size searching)
     (chosen (Sound size) (eqb tag 32) _ _ (λ e. hager-zhang-sound size)
     (chosen (Sound size) (eqb tag 33) _ _ (λ e. backtracking-sound size (isCondition (byteAt body 0)))
     (chosen (Sound size) (eqb tag 34) _ _ (λ e. dot-sound size n m)
-    (chosen (Sound size) (eqb tag 35) _ _ (λ e. point-sound size n m (pairOf (drop 4 body))) tt))))
+    (chosen (Sound size) (eqb tag 35) _ _ (λ e. point-sound size n m (pairOf (drop 4 body))) tt)))))
 
 -- ---- "Each length in 34 and 35 is at most 511."
 
 short : (size : ℕ) (f : Field) → Sound size f → Short f
+short size StartWhole s = tt
 short size StartHagerZhang s = tt
 short size StartBacktracking s = tt
 short size Answer s = tt
@@ -123,6 +133,7 @@ read-short s searching = by-head (headOf s) (bodyOf s) searching
 -- ---- a body of a size that its tag may not have is malformed: in 34 and 35 one of more than 8,190 bytes
 
 none-sound : (size : ℕ) (f : Field) → 8190 < size → Sound size f → f ≡ Malformed
+none-sound size StartWhole h s = absurd (omega arith)
 none-sound size StartHagerZhang h s = absurd (omega arith)
 none-sound size StartBacktracking h s = absurd (omega arith)
 none-sound size Answer h s = absurd (omega arith)
@@ -142,10 +153,11 @@ pub ruled-out : (tag : ℕ) (body : List ℕ) (searching : Bool)
 unfolding taggedField mayHave
 ruled-out tag body searching =
     let size = length body in
-    by-cases₂ RuledOut (eqb tag 17) (λ e no. rw (not-both searching (eqb size 16) no))
+    by-cases₂ RuledOut (eqb tag 16) (λ e no. rw no)
+    (λ e. by-cases₂ RuledOut (eqb tag 17) (λ e no. rw (not-both searching (eqb size 16) no))
     (λ e. by-cases₂ RuledOut (eqb tag 32) (λ e no. rw no)
     (λ e. by-cases₂ RuledOut (eqb tag 33) (λ e no. rw no)
     (λ e. by-cases₂ RuledOut (eqb tag 34)
     (λ e no. none-sound size _ (leb-false _ _ no) (dot-sound size _ _))
     (λ e. by-cases₂ RuledOut (eqb tag 35)
-    (λ e no. none-sound size _ (leb-false _ _ no) (point-sound size _ _ _)) (λ e no. refl)))))
+    (λ e no. none-sound size _ (leb-false _ _ no) (point-sound size _ _ _)) (λ e no. refl))))))

@@ -2,10 +2,13 @@
 
 use fields::Heading;
 ghost use mathlib.Core.Path.{_≡_};
-ghost use Rattle.case_files.specs.CaseFiles.{isCondition, dotField, pointField, taggedField, mayHave, readOf};
+ghost use Rattle.case_files.specs.CaseFiles.{isWay, isCondition, dotField, pointField};
+ghost use Rattle.case_files.specs.CaseFiles.{taggedField, mayHave, readOf};
 
 // A field by its kind, with the lengths that its body names.
 pub enum Field {
+    // tag 16: a whole Hager-Zhang start
+    StartWhole,
     // tag 32: a Hager-Zhang start
     StartHagerZhang,
     // tag 33: a backtracking start
@@ -17,6 +20,12 @@ pub enum Field {
     // tag 35: of x0, d and out with so many elements
     Point(usize, usize, usize),
     Malformed,
+}
+
+fn is_way(k: u8) -> bool
+    ensures { λ r. ⌜ r ≡ isWay k ⌝ }
+{
+    k <= 1
 }
 
 fn is_condition(k: u8) -> bool
@@ -62,6 +71,13 @@ fn tagged_field(tag: u8, body: &[u8], searching: bool) -> Field
     ensures { λ r. ⌜ r ≡ taggedField tag (now (body .entry)) searching ⌝ }
 {
     let size = body.len();
+    if tag == 16 {
+        let way = is_way(wire::byte(body, 96));
+        if (size == 105) & way {
+            return Field::StartWhole;
+        }
+        return Field::Malformed;
+    }
     if tag == 17 {
         if searching & (size == 16) {
             return Field::Answer;
@@ -99,6 +115,9 @@ fn tagged_field(tag: u8, body: &[u8], searching: bool) -> Field
 pub fn may_have(tag: u8, size: usize) -> bool
     ensures { λ r. ⌜ r ≡ mayHave tag size ⌝ }
 {
+    if tag == 16 {
+        return size == 105;
+    }
     if tag == 17 {
         return size == 16;
     }

@@ -51,8 +51,19 @@ fn begun(out: &mut [u8], at: usize, cases: u64, field: Field, body: &[u8]) -> Pr
 {
     let p = case_lines::head(out, at, cases);
     match field {
-        Field::StartHagerZhang => told(out, p, cases, searches::hager_zhang(body)),
-        Field::StartBacktracking => told(out, p, cases, searches::backtracks(body)),
+        Field::StartWhole => told(out, p, cases, searches::hager_zhang(bodies::whole(body))),
+        Field::StartHagerZhang => told(
+            out,
+            p,
+            cases,
+            searches::hager_zhang(bodies::hager_zhang(body)),
+        ),
+        Field::StartBacktracking => told(
+            out,
+            p,
+            cases,
+            searches::backtracks(bodies::backtracking(body)),
+        ),
         Field::Dot(n, m) => free(on_vectors::dot(out, p, body, n, m), cases, false),
         Field::Point(n, m, k) => free(on_vectors::point(out, p, body, n, m, k), cases, false),
         Field::Answer => free(p, cases, false),

@@ -1,6 +1,8 @@
 // The search of the current case: how it starts, what an answer comes to, and the lines that close its case.
 
 use backtracking::Backtracking;
+use bodies::BacktrackingStart;
+use bodies::HagerZhangStart;
 use bodies::Reply;
 use hagerzhang::Search;
 use refusals::Refusal;
@@ -69,16 +71,14 @@ fn from_backtracking(turn: backtracking::Turn) -> Told {
     }
 }
 
-pub(crate) fn hager_zhang(body: &[u8]) -> Told {
-    let b = bodies::hager_zhang(body);
+pub(crate) fn hager_zhang(b: HagerZhangStart) -> Told {
     match hagerzhang::start(b.options, b.f0, b.s0) {
         hagerzhang::Started::Began(turn) => from_hager_zhang(turn),
         hagerzhang::Started::NoSearch(r) => refused(r),
     }
 }
 
-pub(crate) fn backtracks(body: &[u8]) -> Told {
-    let b = bodies::backtracking(body);
+pub(crate) fn backtracks(b: BacktrackingStart) -> Told {
     match backtracking::start(b.options, b.f0, b.s0) {
         backtracking::Started::Began(turn) => from_backtracking(turn),
         backtracking::Started::NoSearch(r) => refused(r),

@@ -3,7 +3,9 @@
 
 use conditions::Condition;
 use hagerzhang_decisions::parameters;
+use hagerzhang_rules::Options;
 use hagerzhang_rules::Params;
+use hagerzhang_rules::Way;
 
 // Those of the verdict.
 fn verdict(out: &mut [u8], at: usize, p: Params) -> usize {
@@ -19,10 +21,21 @@ fn bracket(out: &mut [u8], at: usize, p: Params) -> usize {
     text::floats_line(out, b, b"hagerzhang eta", &[p.eta])
 }
 
-fn steps(out: &mut [u8], at: usize, p: Params) -> usize {
-    let a = text::floats_line(out, at, b"hagerzhang min", &[p.min]);
-    let b = text::floats_line(out, a, b"hagerzhang max", &[p.max]);
-    text::floats_line(out, b, b"hagerzhang start", &[p.start])
+// Those of the way of starting.
+fn way(out: &mut [u8], at: usize, w: Way) -> usize {
+    match w {
+        Way::Bounded(e) => {
+            let a = text::floats_line(out, at, b"hagerzhang min", &[e.min]);
+            text::floats_line(out, a, b"hagerzhang max", &[e.max])
+        }
+        Way::Growing(k) => text::number_line(out, at, b"hagerzhang K ", k as u64),
+    }
+}
+
+fn steps(out: &mut [u8], at: usize, o: Options) -> usize {
+    let w = o.way;
+    let a = way(out, at, w);
+    text::floats_line(out, a, b"hagerzhang start", &[o.params.start])
 }
 
 fn hager_zhang(out: &mut [u8], at: usize) -> usize {
@@ -30,7 +43,7 @@ fn hager_zhang(out: &mut [u8], at: usize) -> usize {
     let p = o.params;
     let a = verdict(out, at, p);
     let b = bracket(out, a, p);
-    let c = steps(out, b, p);
+    let c = steps(out, b, o);
     let d = text::number_line(out, c, b"hagerzhang B ", o.budget as u64);
     text::number_line(out, d, b"hagerzhang N ", o.limit as u64)
 }

@@ -10,8 +10,8 @@ use native.Mathlib.Omega.{arith}
 use lib.Dec.{ltb}
 use lib.Ieee.{Float}
 use Rattle.floats.proofs.Order.{finite→real}
-use Rattle.refusals.proofs.Refusals.{Passed}
-use Rattle.runs.specs.Asking.{Rest, ask, end, Reply, respond, shown, reported, awaits, isOver as over, onceTold, after}
+use Rattle.refusals.proofs.Refusals.{passed}
+use Rattle.runs.specs.Asking.{Rest, ask, end, Reply, respond, shown, reported, awaits, isOver as over, after}
 use Rattle.runs.proofs.Tied.{Tied, Stands, after-one-more, begins, stands-at}
 use Rattle.runs.proofs.Tied as machines
 use Rattle.hagerzhang_rules.specs.declared.Point.{Point}
@@ -19,18 +19,19 @@ use Rattle.hagerzhang_rules.specs.declared.Options.{Options}
 use Rattle.hagerzhang_rules.specs.declared.Setup.{Setup}
 use Rattle.hagerzhang_rules.specs.Parameters.{setupOf, startRows}
 use Rattle.hagerzhang_rules.specs.Rules.{answerFinite, Report, hagerZhang}
-use Rattle.hagerzhang_rules.specs.Iterations.{progress}
+use Rattle.hagerzhang_rules.specs.Iterations.{progress, mostInStart, mostInIteration}
 use Rattle.hagerzhang_rules.proofs.UnderWay.{noted, kept, under-way, finished-by}
-use Rattle.hagerzhang_rules.proofs.Ranges.{limit-fits, level-finite, most-answers}
-use Rattle.hagerzhang_rules.proofs.Bounds.{search-within}
+use Rattle.hagerzhang_rules.proofs.Ranges.{Accepted, ever, limit-fits, level-finite, most-answers}
+use Rattle.hagerzhang_rules.proofs.EndsInTime.{search-within}
 use Rattle.hagerzhang.specs.declared.state.Stage.{Stage}
 use Rattle.hagerzhang.specs.declared.state.Stage.the-variants.{Open, Over}
 use Rattle.hagerzhang.specs.declared.state.Search.{Search}
+use Rattle.hagerzhang.specs.declared.state.Turn.{Turn}
 use Rattle.hagerzhang.specs.Machine.{awaitedOf, answerOf, freshOf}
 use Rattle.hagerzhang.specs.Meaning.{report, isOver, dueTold, meaning, meant, Follows}
-use Rattle.hagerzhang.proofs.Bridge.{follows, starts-whole}
+use Rattle.hagerzhang.proofs.Bridge.{follows, begins-whole}
 use Rattle.hagerzhang.proofs.Answering.{setup-kept, reports, awaited}
-use Rattle.demands.specs.Runs.{next, machine, reachedBy, toldAt, and-then}
+use Rattle.demands.specs.Runs.{Gave, next, machine, reachedBy, toldAt, and-then}
 use Rattle.demands.specs.Runs.{note, noteBy, askedFrom, askedBy, askedAt, finishedBy}
 use Rattle.demands.proofs.Answered.{answered}
 
@@ -39,17 +40,13 @@ unfolding meaning over
 over-is s (Open waiting) = refl
 over-is s (Over kept) = refl
 
-pub whole : (s : Setup) → meant (freshOf s .search) ≡ onceTold (hagerZhang s)
-unfolding hagerZhang onceTold
-whole s = starts-whole s
-
 noted-awaits : (r : Rest Report) (y : Reply) (asked : List Point) → noted r y asked ≡ note (awaits r) y asked
 unfolding awaits
 noted-awaits (ask k x then) y asked = refl
 noted-awaits (end o) y asked = refl
 
 -- ---- a start that no row refuses
-module _ (o : Options) (f0 s0 : Float) (ok : Passed (startRows o f0 s0)) where
+module _ (o : Options) (f0 s0 : Float) (ok : Accepted o f0 s0) where
   abbrev s : Setup
   s = setupOf o f0 s0
 
@@ -76,10 +73,10 @@ module _ (o : Options) (f0 s0 : Float) (ok : Passed (startRows o f0 s0)) where
     first-fits = refl;
     none-counted = refl;
     rules = hagerZhang s;
-    whole = whole s;
-    most = 3 + o .limit * (3 + 3 * o .budget);
+    whole = begins-whole s;
+    most = mostInStart o + o .limit * mostInIteration o;
     within = search-within o f0 s0 ok;
-    countable = let most = most-answers o f0 s0 ok in omega arith;
+    countable = let most = most-answers o f0 s0 ok in let all = ever (o .way) in omega arith;
   }
 
   pub told-at : (ys : List Reply) (y : Reply) → toldAt b ys y ≡ shown (respond (after (hagerZhang s) ys) (y .0) (y .1))
@@ -134,3 +131,10 @@ module _ (o : Options) (f0 s0 : Float) (ok : Passed (startRows o f0 s0)) where
 
   pub finished-at : (ys : List Reply) → finishedBy b ys ≡ finished-by (hagerZhang s) ys
   finished-at ys = finished-is b (hagerZhang s) (begins tied) ys
+
+-- what `start` gave is a fresh search of a start that is accepted
+pub accepted : (o : Options) (f0 s0 : Float) (t : Turn) → Gave o f0 s0 t
+    → Accepted o f0 s0 × (freshOf (setupOf o f0 s0) ≡ t)
+accepted o f0 s0 t gave =
+    let is = passed (startRows o f0 s0) (freshOf (setupOf o f0 s0)) t (gave .given) in
+    (record { passed = is .0; f64s = gave .f64s }, is .1)

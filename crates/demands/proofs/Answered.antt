@@ -1,5 +1,5 @@
 -- 01's table of refusals for Hager-Zhang, of any state: an answer is refused by 8 and by 2 exactly when their rows say
--- so, and else by 6, 5 or 7 at most; and what that leaves (`answered`). Assumes nothing.
+-- so, and else by 6, 5, 7 or 11 at most; and what that leaves (`answered`). Assumes nothing.
 use mathlib.Core.Path.{_≡_, refl, sym, ap, _∙_}
 use mathlib.Core.Bool.{true, false, true≢false, false≢true}
 use mathlib.Core.Option.{Option·none-ne-some}

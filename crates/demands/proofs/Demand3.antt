@@ -4,25 +4,25 @@ use mathlib.Core.Path.{_≡_, refl, sym, ap, _∙_, subst}
 use mathlib.Core.List.{List, _∷_}
 use native.Mathlib.Omega.{arith}
 use lib.Ieee.{Float}
-use Rattle.refusals.specs.Results.{value}
 use Rattle.runs.specs.Outcomes.{Ending, stop, limit, refusal, Why, numbered}
 use Rattle.runs.proofs.Tied.{ends-in-time, finite-bounded, finite-counted, not-finite-once}
-use Rattle.refusals.proofs.Refusals.{Passed, passed}
 use Rattle.hagerzhang_rules.specs.declared.Point.{Point}
 use Rattle.hagerzhang_rules.specs.declared.Options.{Options}
 use Rattle.hagerzhang_rules.specs.declared.Setup.{Setup}
-use Rattle.hagerzhang_rules.specs.Parameters.{setupOf, startRows}
+use Rattle.hagerzhang_rules.specs.Parameters.{setupOf}
 use Rattle.hagerzhang_rules.specs.Rules.{Report, iterationsIn}
 use Rattle.hagerzhang_rules.specs.Iterations.{EndedBecause, by-limit}
-use Rattle.hagerzhang_rules.proofs.Ranges.{most-answers}
+use Rattle.hagerzhang_rules.proofs.Ranges.{Accepted, most-answers}
+use Rattle.hagerzhang_rules.proofs.Iterations.{mostAt}
 use Rattle.hagerzhang_rules.proofs.Demand3 as rules
 use Rattle.hagerzhang.specs.declared.state.Search.{Search}
 use Rattle.hagerzhang.specs.declared.state.Turn.{Turn}
-use Rattle.hagerzhang.specs.Machine.{freshOf, startOf}
+use Rattle.hagerzhang.specs.Machine.{freshOf}
+use Rattle.demands.specs.Runs.{Gave, reachedBy}
 use Rattle.demands.specs.Demand1.{Reason}
 use Rattle.demands.specs.Demand3.{AtLimit, Bounded, Demand3}
 use Rattle.demands.proofs.Refused.{fresh-refused}
-use Rattle.demands.proofs.Along.{tied, report-at, report-next, asked-by, asked-at, finished-at}
+use Rattle.demands.proofs.Along.{accepted, tied, report-at, report-next, asked-by, asked-at, finished-at}
 
 -- ---- an ending by the limit is at the N-th iteration
 told-limit : (e : Ending Why) (x : Float) → numbered e ≡ limit x → e ≡ limit x
@@ -40,7 +40,7 @@ limit-reached {s} {k} {asked} {x} r =
     reached (subst (EndedBecause s k asked) (told-limit (r .reason) x (r .told-as)) (r .true-of))
 
 -- ---- a start that no row refuses
-module _ (o : Options) (f0 s0 : Float) (ok : Passed (startRows o f0 s0)) where
+module _ (o : Options) (f0 s0 : Float) (ok : Accepted o f0 s0) where
   abbrev s : Setup
   s = setupOf o f0 s0
 
@@ -53,15 +53,18 @@ module _ (o : Options) (f0 s0 : Float) (ok : Passed (startRows o f0 s0)) where
   of-fresh : Bounded o f0 s0 t
   of-fresh = record {
     bracket-ordered = λ ys p e. rules.bracket-ordered o f0 s0 ok ys p (sym (report-at o f0 s0 ok ys) ∙ e);
-    bracket-stays = λ ya yb yc ys three p e.
-        rules.bracket-stays o f0 s0 ok ya yb yc three ys p (sym (report-at o f0 s0 ok (ya ∷ yb ∷ yc ∷ ys)) ∙ e);
+    bracket-stays = λ ends is ya yb yc ys three p e.
+        rules.bracket-stays o f0 s0 ok ends is ya yb yc three ys p
+        (sym (report-at o f0 s0 ok (ya ∷ yb ∷ yc ∷ ys)) ∙ e);
+    bracket-holds = λ K is ys p e. rules.bracket-holds o f0 s0 ok K is ys p (sym (report-at o f0 s0 ok ys) ∙ e);
     each-iteration = λ ys y p q e e' n.
         rw (asked-at o f0 s0 ok ys y)
         (rules.each-iteration o f0 s0 ok ys y p q (sym (report-at o f0 s0 ok ys) ∙ e)
         (sym (report-next o f0 s0 ok ys y) ∙ e') n);
-    iteration-bounded = λ ys.
-        let few = rules.iteration-bounded o f0 s0 ok ys in
-        rw (asked-by o f0 s0 ok ys) (omega arith);
+    iteration-bounded = λ ys p e.
+        rw (asked-by o f0 s0 ok ys) (rw (sym (report-at o f0 s0 ok ys) ∙ e) at (rules.part-bounded o f0 s0 ok ys));
+    start-bounded = λ ys e.
+        rw (asked-by o f0 s0 ok ys) (rw (sym (report-at o f0 s0 ok ys) ∙ e) at (rules.part-bounded o f0 s0 ok ys));
     search-ends = λ ys many. ends-in-time (tied o f0 s0 ok) ys (omega arith);
     evaluations-counted = finite-counted (tied o f0 s0 ok);
     evaluations-bounded = λ ys. let few = finite-bounded (tied o f0 s0 ok) ys in omega arith;
@@ -78,10 +81,10 @@ module _ (o : Options) (f0 s0 : Float) (ok : Passed (startRows o f0 s0)) where
   }
 
 -- ---- every search that `start` gave
-bounded : (o : Options) (f0 s0 : Float) (t : Turn) → startOf o f0 s0 ≡ value t → Bounded o f0 s0 t
-bounded o f0 s0 t began =
-    let given = passed (startRows o f0 s0) (freshOf (setupOf o f0 s0)) t began in
-    subst (Bounded o f0 s0) (given .1) (of-fresh o f0 s0 (given .0))
+pub bounded : (o : Options) (f0 s0 : Float) (t : Turn) → Gave o f0 s0 t → Bounded o f0 s0 t
+bounded o f0 s0 t gave =
+    let is = accepted o f0 s0 t gave in
+    subst (Bounded o f0 s0) (is .1) (of-fresh o f0 s0 (is .0))
 
 pub demand3 : Demand3
 demand3 = record { search-given = bounded }

@@ -11,4 +11,5 @@ pub mod EmptyPrograms
 pub mod Backtracking
 pub mod Determined
 pub mod StoredJobs
+pub mod StartBracketing
 pub mod Reached

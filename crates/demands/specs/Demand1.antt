@@ -34,11 +34,12 @@ use Rattle.curves.specs.declared.Known.{Known}
 use Rattle.curves.specs.Curves.{valueOf, slopeOf, curveRows}
 use Rattle.curves.specs.Told.{curveTold, NumberedSaid}
 use Rattle.hagerzhang_rules.specs.declared.Point.{Point}
+use Rattle.hagerzhang_rules.specs.declared.Way.the-variants.{Growing}
 use Rattle.hagerzhang_rules.specs.declared.Came.the-variants.{On}
 use Rattle.hagerzhang_rules.specs.declared.Options.{Options}
 use Rattle.hagerzhang_rules.specs.declared.Setup.{Setup}
 use Rattle.hagerzhang_rules.specs.Parameters.{setupOf, startRows}
-use Rattle.hagerzhang_rules.specs.Rules.{answerFinite, middleOf, Summary, Report, last}
+use Rattle.hagerzhang_rules.specs.Rules.{answerFinite, middleOf, longerOf, Report, noneYet}
 use Rattle.hagerzhang_rules.specs.Iterations.{standing, had, AskedBecause, EndedBecause}
 use Rattle.fields.specs.Fields.{Field}
 use Rattle.jobs.specs.declared.Job.{Job}
@@ -50,9 +51,9 @@ use Rattle.jobs.specs.Opening.{jobRows, openedTold, BeginSaid}
 use Rattle.hagerzhang.specs.declared.state.Started.{Started}
 use Rattle.hagerzhang.specs.declared.state.Search.{Search}
 use Rattle.hagerzhang.specs.declared.state.Turn.{Turn}
-use Rattle.hagerzhang.specs.Machine.{startOf, startedTold, StartSaid, AnswerSaid}
+use Rattle.hagerzhang.specs.Machine.{startedTold, StartSaid, AnswerSaid}
 use Rattle.hagerzhang.specs.Meaning.{report, isOver, OfTheStep}
-use Rattle.demands.specs.Runs.{reachedBy, toldAt, and-then, askedBy}
+use Rattle.demands.specs.Runs.{Gave, reachedBy, toldAt, and-then, askedBy}
 
 -- ---- an answer to any state, made by hand or not
 
@@ -66,7 +67,7 @@ pub record Answered (s : Search) (f g : Float) (r : Turn) : Type 0 where
   pub otherwise : given (earlyRows s f g) ≡ none → OfTheStep (refusalIn (told (r .outcome)))
   -- 8: "state unchanged"
   pub unchanged : isOver (s .stage) ≡ true → r .search ≡ s
-  -- 2, 5, 6, 7: "search over"; a stop and the limit end it too, and nothing else does
+  -- 2, 5, 6, 7, 11: "search over"; a stop and the limit end it too, and nothing else does
   pub over : (e : Ending ℕ) → told (r .outcome) ≡ ends e → isOver (r .search .stage) ≡ true
   pub goes-on : (x : Float) → told (r .outcome) ≡ asks x → isOver (r .search .stage) ≡ false
   -- 2 keeps what was held
@@ -78,19 +79,28 @@ pub record Answered (s : Search) (f g : Float) (r : Turn) : Type 0 where
 
 -- ---- an answer to a search that `start` gave: why it is refused, and what is asked
 
--- an ending comes for a reason that is true: of what is held, which is from before the iteration under way, and of the
--- points that this iteration asked
+-- an ending comes for a reason that is true: of what is held, which is from before the start or the iteration under
+-- way, and of the points that were asked in it
 pub record Reason (s : Setup) (held : Report) (asked : List Point) (e : Ending ℕ) : Type 0 where
   pub reason : Ending Why
   pub told-as : numbered reason ≡ e
   pub true-of : EndedBecause s held asked reason
 
--- what U3 tells when it stands between h and k and has had n answers: 6, then 5, then 7, or its next step
+-- what U3 tells, in the start or an iteration, when it stands between h and k and has had n answers: 6, then 5, then 7,
+-- or its next step
 abbrev pub toldInU3 : Setup → ℕ → Point → Float → Told
 toldInU3 s n h k =
     let d = middleOf (s .options .params .theta) h k in
     cond (eqb n (s .options .budget)) (ends (refusal 6))
     (cond (finite d) (cond (h .x <ᶠ d && d <ᶠ k) (asks d) (ends (refusal 7))) (ends (refusal 5)))
+
+-- what a start that grows tells when its trial t was too short and n were asked before: "11, before 5, if K growths are
+-- used up", or the next step
+abbrev pub toldTooShort : ℕ → ℕ → Point → Told
+toldTooShort K n t =
+    cond (eqb n K) (ends (refusal 11))
+    (cond (finite (longerOf t)) (asks (longerOf t))
+    (ends (refusal 5)))
 
 module _ (o : Options) (f0 s0 : Float) (t : Turn) where
   abbrev s : Setup
@@ -100,19 +110,30 @@ module _ (o : Options) (f0 s0 : Float) (t : Turn) where
   b = t .search
 
   pub record RefusedRightly : Type 0 where
-    -- 2, 5, 6 and 7, a stop and the limit: where one more answer ends the search
+    -- 2, 5, 6, 7 and 11, a stop and the limit: where one more answer ends the search
     pub ended : (ys : List Reply) (y : Reply) (e : Ending ℕ) → toldAt b ys y ≡ ends e
         → Reason s (report (reachedBy b (and-then ys y))) (askedBy b (and-then ys y)) e
-    -- 6, 5 and 7 in U3, both ways and in this order: what is told where a finite answer leaves the search in U3
+    -- 6, 5 and 7 in U3, both ways and in this order: what is told where a finite answer leaves the search in U3, in the
+    -- start or an iteration
     pub in-U3 : (ys : List Reply) (y : Reply) → isOver (reachedBy b ys .stage) ≡ false
         → answerFinite (y .0) (y .1) ≡ true
-        → (p : Summary) (h : Point) (k : Float) → report (reachedBy b (and-then ys y)) ≡ last p
-        → standing s (p .bracket) (askedBy b (and-then ys y)) ≡ some (On h k)
-        → toldAt b ys y ≡ toldInU3 s (had s (p .bracket) (askedBy b (and-then ys y))) h k
-    -- every step that is asked is finite; in an iteration for its reason, in U3 strictly between its ends
+        → (h : Point) (k : Float)
+        → standing s (report (reachedBy b (and-then ys y))) (askedBy b (and-then ys y)) ≡ some (On h k)
+        → toldAt b ys y ≡ toldInU3 s (had s (report (reachedBy b (and-then ys y))) (askedBy b (and-then ys y))) h k
+    -- 11 and 5 of a start that grows, both ways and in this order: where a finite answer leaves it growing
+    pub in-growth : (K : ℕ) → o .way ≡ Growing K → (ys : List Reply) (y : Reply)
+        → isOver (reachedBy b ys .stage) ≡ false
+        → answerFinite (y .0) (y .1) ≡ true
+        → report (reachedBy b (and-then ys y)) ≡ noneYet
+        → (d : Point) (asked : List Point) → askedBy b (and-then ys y) ≡ d ∷ asked
+        → standing s noneYet (d ∷ asked) ≡ none
+        → toldAt b ys y ≡ toldTooShort K (length asked) d
+    -- every step that is asked, the first too, is finite, and comes for its reason; in U3 it is strictly between its
+    -- ends
+    pub asks-first : (x : Float) → told (t .outcome) ≡ asks x → AskedBecause s noneYet [] x
     pub asks-finite : (ys : List Reply) (y : Reply) (x : Float) → toldAt b ys y ≡ asks x → finite x ≡ true
     pub asks-rightly : (ys : List Reply) (y : Reply) (x : Float) → toldAt b ys y ≡ asks x
-        → (p : Summary) → report (reachedBy b (and-then ys y)) ≡ last p → AskedBecause s p (askedBy b (and-then ys y)) x
+        → AskedBecause s (report (reachedBy b (and-then ys y))) (askedBy b (and-then ys y)) x
 
 -- ---- every function that can refuse, but backtracking's (specs/Backtracking.antt): any result of its contract
 
@@ -137,7 +158,7 @@ pub record Demand1 : Type 0 where
   pub condition-kept : (C D : Condition) → CheckedSaid C (Fit D) → D ≡ C
   -- 3 of a curve's number
   pub curve : (n : ℕ) (r : Known) → NumberedSaid n r → Table (refusedBy (curveTold r)) (curveRows n)
-  -- 2, 3, 4 of a start, with no search
+  -- 2, 3, 10, 4 of a start, with no search
   pub start : (o : Options) (f0 s0 : Float) (r : Started) → StartSaid o f0 s0 r
       → Table (refusedBy (startedTold r)) (startRows o f0 s0)
   -- 9, by the format: bytes that hold a job are read as it, and bytes that hold none are refused
@@ -155,5 +176,5 @@ pub record Demand1 : Type 0 where
   pub curve-answer : (s : Search) (c : Curve) (x : Float) (r : Turn) → AnswerSaid s (valueOf c x) (slopeOf c x) r
       → isOver (s .stage) ≡ false → answerFinite (valueOf c x) (slopeOf c x) ≡ false
       → refusalIn (told (r .outcome)) ≡ some 2
-  -- 2, 5, 6, 7, of any search that `start` gave
-  pub search-given : (o : Options) (f0 s0 : Float) (t : Turn) → startOf o f0 s0 ≡ value t → RefusedRightly o f0 s0 t
+  -- 2, 5, 6, 7, 11, of any search that `start` gave
+  pub search-given : (o : Options) (f0 s0 : Float) (t : Turn) → Gave o f0 s0 t → RefusedRightly o f0 s0 t

@@ -5,4 +5,5 @@ pub mod Demand3
 pub mod Backtracking
 pub mod Determined
 pub mod StoredJobs
+pub mod StartBracketing
 pub mod Reached

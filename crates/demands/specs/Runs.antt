@@ -1,19 +1,29 @@
 -- A Hager-Zhang search of the machine, along any answers: the state that is reached, what is told, what was asked in
--- the iteration under way, and what is counted. `answerOf` is what `answer` gives, by its contract.
+-- the start or the iteration under way, and what is counted. `answerOf` is what `answer` gives, by its contract.
 use Prim.Native.Nat.{ℕ, _+_}
+use mathlib.Core.Path.{_≡_}
 use mathlib.Core.Bool.{cond, not}
 use mathlib.Core.List.{List, [], _∷_, _++_}
 use mathlib.Core.Option.{Option, some, none}
 use lib.Dec.{ltb}
 use lib.Ieee.{Float}
+use Rattle.refusals.specs.Results.{value}
 use Rattle.runs.specs.Outcomes.{Told, told}
 use Rattle.runs.specs.Asking.{Reply, Machine, reached, played, toldNext, tallied}
 use Rattle.hagerzhang_rules.specs.declared.Point.{Point}
+use Rattle.hagerzhang_rules.specs.declared.Options.{Options}
 use Rattle.hagerzhang_rules.specs.Rules.{point, answerFinite, iterationsIn}
-use Rattle.hagerzhang_rules.specs.Iterations.{progress}
+use Rattle.hagerzhang_rules.specs.Iterations.{progress, F64s}
 use Rattle.hagerzhang.specs.declared.state.Search.{Search}
-use Rattle.hagerzhang.specs.Machine.{awaitedOf, answerOf}
+use Rattle.hagerzhang.specs.declared.state.Turn.{Turn}
+use Rattle.hagerzhang.specs.Machine.{startOf, awaitedOf, answerOf}
 use Rattle.hagerzhang.specs.Meaning.{report, isOver, dueTold}
+
+-- t is what `start` gave for the options o, and the cost f0 and slope s0 at step 0. Of a start that grows, f0 and the
+-- start step are f64s, as all that is handed to `start` is
+pub record Gave (o : Options) (f0 s0 : Float) (t : Turn) : Type 0 where
+  pub given : startOf o f0 s0 ≡ value t
+  pub f64s : F64s o f0
 
 -- one answer
 abbrev pub next : Search → Float → Float → Search

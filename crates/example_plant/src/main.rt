@@ -3,7 +3,9 @@
 use hagerzhang::Started;
 use hagerzhang::Turn;
 use hagerzhang_decisions::parameters;
+use hagerzhang_rules::Bounds;
 use hagerzhang_rules::Options;
+use hagerzhang_rules::Way;
 use runs::Outcome;
 use streams::Sent;
 
@@ -34,11 +36,15 @@ fn slope(p: Plant, x: f64) -> f64 {
 
 // The defaults, with the flows between which the plant may run, and no flow as the first guess.
 fn options() -> Options {
-    let mut o = parameters::defaults();
-    o.params.min = 0.0;
-    o.params.max = 2.0;
-    o.params.start = 0.0;
-    o
+    let d = parameters::defaults();
+    let mut params = d.params;
+    params.start = 0.0;
+    Options {
+        params,
+        way: Way::Bounded(Bounds { min: 0.0, max: 2.0 }),
+        budget: d.budget,
+        limit: d.limit,
+    }
 }
 
 // The line of what the search says, with its evaluations and finished iterations. `sent` goes from line to line: behind

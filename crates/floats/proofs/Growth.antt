@@ -13,7 +13,7 @@ use lib.Dec.{T, lt→ltb, ltb, ltb→lt, nltb→le}
 use lib.IntN.{ℤ, pos}
 use lib.Pow.{pow-add, pow-pos}
 use lib.Ieee.{Float, nan, inf, fin, Format, binary32, binary64, emax, low, up, down, fits, isNan, ofBits}
-use lib.Ieee.{round, sum, add, mul, lt, le}
+use lib.Ieee.{round, sum, add, mul, lt, le, unlike}
 use lib.Ieee.Fits.{down-pos, up-pos}
 use lib.Ieee.Exact.{HasValue, round-exact}
 use lib.Ieee.Order.{round-mono}
@@ -21,7 +21,7 @@ use lib.Ieee.Bits.{is-true}
 use lib.Ieee.Positive.{num, den, positive, den-pos, first-pos}
 use lib.Ieee.Positive.{own-value, positive-of-value, values-of-le, le→cross, mul-at}
 use lib.Ieee.Scale.{finite}
-use Rattle.floats.specs.Arithmetic.{_⊕_, _⊗_, _<ᶠ_, _≤ᶠ_, 0ᶠ}
+use Rattle.floats.specs.Arithmetic.{_⊕_, _⊗_, _<ᶠ_, _≤ᶠ_, 0ᶠ, 5ᶠ}
 use Rattle.floats.proofs.Tests.{yes, no, yes-or-no}
 use Rattle.floats.proofs.Signed.{AtMost, at-most-says, at-most-refl, at-most-scale, zero-of, zero-times}
 use Rattle.floats.proofs.Compare.{trans, converse}
@@ -94,6 +94,42 @@ up-of f (fin s m e) (fin t n d) F p h =
 pub add-up : (x e : Float) → fits binary64 x ≡ true → finite x ≡ true → 0ᶠ ≤ᶠ e ≡ true → x ≤ᶠ x ⊕ e ≡ true
 unfolding ofBits
 add-up x e F p h = is-true (x ≤ᶠ x ⊕ e) (up-of binary64 x e (yes F) (yes p) (yes h))
+
+-- ---- a product with a value that has no sign
+-- ±a / c, where it is not negative, rounds to a value that is not
+round-not-negative : (f : Format) (t : Bool) (a c : ℕ) → 0 < c → AtMost false 0 t a
+    → T (le (round f false 0 1) (round f t a c))
+round-not-negative f t a c C h =
+    round-le f false t 0 1 a c (omega arith) C
+    (subst (λ (k : ℕ). AtMost false k t (a * 1)) (sym (zero-mul c))
+    (subst (λ (k : ℕ). AtMost false 0 t k) (sym (mul-one a)) h))
+
+zero-rounds : (y : Float) → T (le (round binary64 false 0 1) y) → T (le (fin false 0 (pos 0)) y)
+unfolding round
+zero-rounds y h = h
+
+rounds-up-from-zero : (t : Bool) (a c : ℕ) → 0 < c → AtMost false 0 t a
+    → T (le (fin false 0 (pos 0)) (round binary64 (unlike t false) a c))
+rounds-up-from-zero false a c C h = zero-rounds (round binary64 false a c) (round-not-negative binary64 false a c C h)
+rounds-up-from-zero true a c C h = zero-rounds (round binary64 true a c) (round-not-negative binary64 true a c C h)
+
+times-of : (x : Float) (n : ℕ) (d : ℤ) → T (finite x) → T (le (fin false 0 (pos 0)) x)
+    → T (le (fin false 0 (pos 0)) (mul binary64 x (fin false n d)))
+unfolding le mul
+times-of nan n d p h = absurd p
+times-of (inf s) n d p h = absurd p
+times-of (fin s m e) n d p h =
+    let y = m * up e * 1 in
+    let own : AtMost false 0 s y =
+    subst (λ (k : ℕ). AtMost false k s y) (zero-mul (down e)) (at-most-says false s (0 * down e) y h) in
+    rounds-up-from-zero s (m * up e * (n * up d)) (down e * down d) (mul-pos (down-pos e) (down-pos d))
+    (not-negative s (m * up e) (n * up d) own)
+
+-- 0 ≤ x n 2 ^ d for a finite x ≥ 0
+pub times-not-negative : (x : Float) (n : ℕ) (d : ℤ) → finite x ≡ true → 0ᶠ ≤ᶠ x ≡ true
+    → 0ᶠ ≤ᶠ x ⊗ fin false n d ≡ true
+unfolding ofBits
+times-not-negative x n d p h = is-true (0ᶠ ≤ᶠ x ⊗ fin false n d) (times-of x n d (yes p) (yes h))
 
 -- ---- twice a positive value or more is larger
 top-inf : (f : Format) → round f false (2 ^ suc (emax f)) 1 ≡ inf false
@@ -209,10 +245,6 @@ positive-by nan p h = p
 positive-by (inf s) p h = p
 positive-by (fin true n d) p h = h
 positive-by (fin false n d) p h = above-zero n d h
-
--- the literal 5.0
-abbrev pub 5ᶠ : Float
-5ᶠ = ofBits binary64 0x4014_0000_0000_0000
 
 -- x < 5 x for a finite x above 0, where 5 x is finite
 pub five-grows : (x : Float) → fits binary64 x ≡ true → finite x ≡ true → 0ᶠ <ᶠ x ≡ true → finite (5ᶠ ⊗ x) ≡ true

@@ -32,7 +32,7 @@ x >ᶠ y = lt y x
 abbrev pub _≥ᶠ_ : Float → Float → Bool
 x ≥ᶠ y = le y x
 
--- the literals of 01's rules: 0.0, which is +0, and 0.5, 1.0 and 2.0
+-- the literals of 01's rules: 0.0, which is +0, and 0.5, 1.0 and 2.0; and 5.0, of 02's request 3
 abbrev pub 0ᶠ : Float
 0ᶠ = ofBits binary64 0
 
@@ -44,3 +44,6 @@ abbrev pub 1ᶠ : Float
 
 abbrev pub 2ᶠ : Float
 2ᶠ = ofBits binary64 0x4000_0000_0000_0000
+
+abbrev pub 5ᶠ : Float
+5ᶠ = ofBits binary64 0x4014_0000_0000_0000

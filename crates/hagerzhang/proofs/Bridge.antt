@@ -11,7 +11,10 @@ use lib.Ieee.Scale.{finite}
 use borrow.Author.Tests.{leb-true, leb-false, ne-eqb}
 use Rattle.floats.specs.Arithmetic.{_<ᶠ_}
 use Rattle.refusals.specs.Results.{Result}
-use Rattle.runs.specs.Outcomes.{limit, Told, told}
+use Rattle.refusals.specs.Refusals.{numberOf}
+use Rattle.refusals.specs.declared.Refusal.{Refusal}
+use Rattle.refusals.specs.declared.Refusal.the-variants.{StepNotFinite, BudgetSpent, StepNotBetween}
+use Rattle.runs.specs.Outcomes.{limit, refusal, Told, told, Why, budgetSpent, stepNotFinite, stepNotBetween, numberFor}
 use Rattle.runs.specs.Asking.{Rest, endWith, keeping, respond, shown, firstOf, onceTold}
 use Rattle.runs.specs.Counters.{oneMore, evaluations, iterations}
 use Rattle.runs.proofs.Machines.{Seen, seen, counts-on}
@@ -22,10 +25,14 @@ use Rattle.hagerzhang.specs.declared.state.Asked.{Asked}
 use Rattle.hagerzhang.specs.declared.state.Asked.the-variants.{Update, Between}
 use Rattle.hagerzhang_rules.specs.declared.Point.{Point}
 use Rattle.hagerzhang_rules.specs.declared.Bracket.{Bracket}
+use Rattle.hagerzhang_rules.specs.declared.Way.{Way}
+use Rattle.hagerzhang_rules.specs.declared.Way.the-variants.{Bounded, Growing}
 use Rattle.hagerzhang_rules.specs.declared.Options.{Options}
 use Rattle.hagerzhang_rules.specs.declared.Setup.{Setup}
 use Rattle.hagerzhang_rules.specs.declared.Came.{Came}
 use Rattle.hagerzhang_rules.specs.declared.Came.the-variants.{To, On}
+use Rattle.hagerzhang_rules.specs.declared.Grown.{Grown}
+use Rattle.hagerzhang_rules.specs.declared.Grown.the-variants.{Enough, TooShort}
 use Rattle.hagerzhang_rules.specs.declared.Further.{Further}
 use Rattle.hagerzhang_rules.specs.declared.Further.the-variants.{Nothing, At}
 use Rattle.hagerzhang_rules.specs.declared.Judged.{Judged}
@@ -35,11 +42,15 @@ use Rattle.hagerzhang.specs.declared.state.Rule.{Rule}
 use Rattle.hagerzhang.specs.declared.state.Rule.the-variants.{S1 as ByS1, S4 as ByS4, L2 as ByL2}
 use Rattle.hagerzhang.specs.declared.state.Trial.{Trial}
 use Rattle.hagerzhang.specs.declared.state.Waiting.{Waiting}
-use Rattle.hagerzhang.specs.declared.state.Waiting.the-variants.{Low, High, StartStep, Running}
+use Rattle.hagerzhang.specs.declared.state.Opening.{Opening}
+use Rattle.hagerzhang.specs.declared.state.Opening.the-variants.{Low, High, StartStep, First, Later, Inside}
+use Rattle.hagerzhang.specs.declared.state.Waiting.the-variants.{Starting, Running}
 use Rattle.hagerzhang.specs.declared.state.Stage.{Stage}
 use Rattle.hagerzhang.specs.declared.state.Stage.the-variants.{Open, Over}
 use Rattle.hagerzhang.specs.declared.moves.Move.{Move}
 use Rattle.hagerzhang.specs.declared.moves.Move.the-variants.{ByLimit}
+use Rattle.hagerzhang.specs.declared.moves.Probed.{Probed}
+use Rattle.hagerzhang.specs.declared.moves.Probed.the-variants.{Passes, Barred}
 use Rattle.hagerzhang.specs.declared.moves.Tested.{Tested}
 use Rattle.hagerzhang.specs.declared.iteration.Then.{Then}
 use Rattle.hagerzhang.specs.declared.iteration.Then.the-variants.{Close}
@@ -49,24 +60,51 @@ use Rattle.hagerzhang.specs.declared.state.Turn.{Turn}
 use Rattle.hagerzhang.specs.declared.state.Started.{Started}
 use Rattle.hagerzhang.specs.declared.state.Started.the-variants.{Began, NoSearch}
 use Rattle.hagerzhang_rules.specs.Parameters.{setupOf, startRows}
-use Rattle.hagerzhang_rules.specs.Rules.{point, answerFinite, middleOf, secantOf, S4, L2, bestOf, judgeOf, trial}
-use Rattle.hagerzhang_rules.specs.Rules.{between, U3, updating, update, further, afterS4, afterS1, iteration, Report}
-use Rattle.hagerzhang_rules.specs.Rules.{reportOf, decided, verdict, rounds, askStart, askHigh, hagerZhang}
+use Rattle.hagerzhang_rules.specs.Rules.{point, answerFinite, middleOf, narrowedOf, longerOf, secantOf, S4, L2, bestOf}
+use Rattle.hagerzhang_rules.specs.Rules.{judgeOf, asking, trial, between, U3, updating, update, further, afterS4}
+use Rattle.hagerzhang_rules.specs.Rules.{afterS1, iteration, askStart, askHigh, enough, growth, starting as starts-by}
+use Rattle.hagerzhang_rules.specs.Rules.{Report, noneYet, reportOf, decided, verdict, rounds, hagerZhang}
 use Rattle.hagerzhang_decisions.proofs.Decides.{decides}
-use Rattle.hagerzhang.specs.Moves.{triesOf, finishedOf, attemptOf, probeOf, testOf, madeBy, outlookBy, madeOf}
-use Rattle.hagerzhang.specs.Moves.{settledOf}
+use Rattle.hagerzhang.specs.State.{narrowing}
+use Rattle.hagerzhang.specs.Moves.{triesOf, finishedOf, attemptOf, probeOf, narrowBy, testOf, madeBy, outlookBy}
+use Rattle.hagerzhang.specs.Moves.{madeOf, settledOf}
+use Rattle.hagerzhang.specs.Opening.{firstBy, firstOf as openingOf, insideOf, arrivedOf, stretchOf, grewBy}
+use Rattle.hagerzhang.specs.Opening.{opensOf}
 use Rattle.hagerzhang.specs.Iteration.{comesOf, leftOf, triedBy, afterS4Of, afterS1Of, followBy, onwardOf, wentOf}
 use Rattle.hagerzhang.specs.Iteration.{runningOf}
-use Rattle.hagerzhang.specs.Machine.{reactOf, keepsOf, stepAsked, stepDue, takenOf, answerBy, answerOf, freshOf}
-use Rattle.hagerzhang.specs.Machine.{startOf, StartSaid, AnswerSaid}
-use Rattle.hagerzhang.specs.Meaning.{lastOf, keptReport, closed, afterTrial, onAsked, onAnswer, meaning, meant}
-use Rattle.hagerzhang.specs.Meaning.{begun, Starts, Follows}
+use Rattle.hagerzhang.specs.Machine.{startsOf, reactOf, keepsOf, stepAsked, openingStep, stepDue, takenOf}
+use Rattle.hagerzhang.specs.Machine.{answerBy, answerOf, freshOf, startOf, StartSaid, AnswerSaid}
+use Rattle.hagerzhang.specs.Meaning.{lastOf, keptReport, closed, afterTrial, onAsked, begins as begins-with}
+use Rattle.hagerzhang.specs.Meaning.{onOpening, onAnswer, meaning, meant, begun, Starts, Follows}
 
 denote : Setup → Next → Seen Report
 denote s n = (meaning s (n .stage), told (n .outcome))
 
 denoteStep : Turn → Seen Report
 denoteStep t = (meant (t .search), told (t .outcome))
+
+-- ---- U3's next step, in an iteration and in the start, while n answers may come: 6, 5, 7. Whatever is `built` of the
+-- test's result, it is the rules' U3, where each refusal is the rules' and a step that passes is asked
+module _ (s : Setup) (k : Report) (built : Probed → Next) (h : Point) (k' : Float) (then : Bracket → Rest Report)
+    (refuses : (r : Refusal) (why : Why) → numberOf r ≡ numberFor why
+    → denote s (built (Barred r)) ≡ seen (endWith k (refusal why)))
+    (passes : (d : Float) (n : ℕ)
+    → denote s (built (Passes (narrowing h k' d n)))
+    ≡ seen (asking s (keeping k) k d (λ p. U3 s (keeping k) k n (narrowedOf (s .level) h k' p) then))) where
+  probes : (n : ℕ)
+      → denote s (built (probeOf (s .options .params .theta) h k' n)) ≡ seen (U3 s (keeping k) k n (On h k') then)
+  unfolding probeOf U3 between
+  probes zero = refuses BudgetSpent (budgetSpent (h .x) k') refl
+  probes (suc n) =
+      let x = middleOf (s .options .params .theta) h k' in
+      let Means : Probed → Rest Report → Type 0 = λ p r. denote s (built p) ≡ seen r in
+      let e : suc n - 1 ≡ n = omega arith in
+      let z : eqb (suc n) 0 ≡ false = ne-eqb (suc n) 0 (λ (p : suc n ≡ 0). suc-ne-zero n p) in
+      rw (e, z)
+      (by-cases₂ Means (finite x)
+      (λ e. by-cases₂ Means (h .x <ᶠ x && x <ᶠ k') (λ e. passes x n)
+      (λ e. refuses StepNotBetween (stepNotBetween (h .x) k' x) refl))
+      (λ e. refuses StepNotFinite (stepNotFinite x) refl))
 
 -- ---- in an iteration: `fin` is what the last finished one left
 module _ (s : Setup) (fin : Finished) where
@@ -186,18 +224,12 @@ module _ (s : Setup) (h : s .options .limit < 4294967296) (fin : Finished) where
     narrows : (n : ℕ) (came : Came)
         → went s fin (onwardOf gamma (fin .bracket) t n came)
         ≡ seen (U3 s (keeping (lastOf fin)) (lastOf fin) n came goes-on)
-    unfolding onwardOf wentOf probeOf testOf madeBy U3 between meaning onAnswer onAsked keepsOf stepDue stepAsked
-        keptReport denote seen onceTold shown
+    unfolding onwardOf wentOf testOf narrowBy madeBy U3 meaning onAnswer onAsked keepsOf stepDue stepAsked keptReport
+        denote seen onceTold shown
     narrows zero (To u) = follows-on (t .rule) (t .x) u
-    narrows zero (On a k') = refl
     narrows (suc n) (To u) = follows-on (t .rule) (t .x) u
-    narrows (suc n) (On a k') =
-        let x = middleOf (s .options .params .theta) a k' in
-        let e : suc n - 1 ≡ n = omega arith in
-        let z : eqb (suc n) 0 ≡ false = ne-eqb (suc n) 0 (λ (p : suc n ≡ 0). suc-ne-zero n p) in
-        rw (e, z)
-        (by-cases₂ (Means s fin) (finite x)
-        (λ e. by-cases₂ (Means s fin) (a .x <ᶠ x && x <ᶠ k') (λ e. refl) (λ e. refl)) (λ e. refl))
+    narrows n (On h k') =
+        probes s (lastOf fin) (λ p. madeBy fin (narrowBy t p)) h k' goes-on (λ r why e. rw e) (λ d m. refl) n
 
   -- an answer to a trial, and to U3's step
   runs : isNan (s .level) ≡ false → (t : Trial) (asked : Asked) (f g : Float) → finite f ≡ true → finite g ≡ true
@@ -212,14 +244,51 @@ module _ (s : Setup) (h : s .options .limit < 4294967296) (real : isNan (s .leve
       → denote s (settledOf s w c (iterations 0)) ≡ seen (rounds s (s .options .limit) w c 0)
   starts-rounds w c = let e : s .options .limit - 0 ≡ s .options .limit = omega arith in rw e at (settles s h w c 0)
 
+  -- a bracket is come to, or U3 goes on while n answers may come; c is the first trial
+  arrives : (c : Point) (n : ℕ) (came : Came)
+      → denote s (startsOf s (arrivedOf (s .options .params .theta) c n came))
+      ≡ seen (U3 s (keeping noneYet) noneYet n came (begins-with s c))
+  unfolding arrivedOf insideOf startsOf U3 meaning onAnswer onOpening keepsOf stepDue openingStep keptReport denote seen
+      onceTold shown
+  arrives c zero (To w) = starts-rounds w c
+  arrives c (suc n) (To w) = starts-rounds w c
+  arrives c n (On h k) =
+      probes s noneYet (λ p. startsOf s (insideOf c p)) h k (begins-with s c) (λ r why e. rw e) (λ d m. refl) n
+
+  -- after a trial t, while the step may grow n times more (11, then 5)
+  grows : (c t : Point) (n : ℕ) (grown : Grown)
+      → denote s (startsOf s (grewBy s c t n grown))
+      ≡ seen (growth s (keeping noneYet) noneYet n t grown (begins-with s c))
+  unfolding grewBy stretchOf startsOf growth enough trial meaning onAnswer onOpening keepsOf stepDue openingStep
+      keptReport denote seen onceTold shown
+  grows c t zero (Enough came) = arrives c (s .options .budget) came
+  grows c t (suc n) (Enough came) = arrives c (s .options .budget) came
+  grows c t zero TooShort = refl
+  grows c t (suc n) TooShort =
+      let e : suc n - 1 ≡ n = omega arith in
+      let z : eqb (suc n) 0 ≡ false = ne-eqb (suc n) 0 (λ (p : suc n ≡ 0). suc-ne-zero n p) in
+      rw (e, z) (by-cases₂ (λ o r. denote s (startsOf s o) ≡ seen r) (finite (longerOf t)) (λ e. refl) (λ e. refl))
+
+  -- a finite answer in the start
+  opens : (w : Opening) (f g : Float) → denote s (startsOf s (opensOf s w f g)) ≡ seen (onOpening s w f g)
+  unfolding opensOf onOpening
+  opens (Low e) f g =
+      unfold askHigh startsOf keepsOf stepDue openingStep keptReport denote seen onceTold shown meaning onAnswer in
+      refl
+  opens (High a x) f g =
+      unfold askStart startsOf keepsOf stepDue openingStep keptReport denote seen onceTold shown meaning onAnswer in
+      refl
+  opens (StartStep w) f g = unfold startsOf in starts-rounds w (point (s .options .params .start) f g)
+  opens (First w) f g = grows (point (w .x) f g) (point (w .x) f g) (w .left) _
+  opens (Later w c) f g = grows c (point (w .x) f g) (w .left) _
+  opens (Inside e c) f g = arrives c (e .left) _
+
   -- every finite answer
   reacts : (waiting : Waiting) (f g : Float) → finite f ≡ true → finite g ≡ true
       → denote s (reactOf s waiting f g) ≡ seen (onAnswer s waiting f g)
   unfolding reactOf onAnswer
-  reacts Low f g ff fg = unfold askHigh keepsOf stepDue keptReport denote seen onceTold shown meaning in refl
-  reacts (High a) f g ff fg = unfold askStart keepsOf stepDue keptReport denote seen onceTold shown meaning in refl
-  reacts (StartStep w) f g ff fg = starts-rounds w (point (s .options .params .start) f g)
-  reacts (Running fin t asked) f g ff fg = runs s h fin real t asked f g ff fg
+  reacts (Starting w) f g ff fg = opens w f g
+  reacts (Running t fin asked) f g ff fg = runs s h fin real t asked f g ff fg
 
   answered : (n : Evaluations) (waiting : Waiting) (f g : Float)
       → denoteStep (takenOf s n waiting f g) ≡ seen (respond (meaning s (Open waiting)) f g)
@@ -251,14 +320,27 @@ pub promised : (s : Search) (f g : Float) → s .setup .options .limit < 4294967
     → AnswerSaid s f g r × (isNan (s .setup .level) ≡ false → Follows s f g r)
 promised s f g h r e = (e, λ real. follows s h real f g r e)
 
--- ---- `start`
-pub starts-whole : (s : Setup) → meaning s (Open Low) ≡ hagerZhang s
-unfolding meaning keepsOf stepDue keptReport onAnswer hagerZhang askHigh
-starts-whole s = refl
+-- ---- `start`, in either way
+begins-by : (s : Setup) (way : Way)
+    → meaning s (Open (Starting (firstBy s way))) ≡ starts-by s (keeping noneYet) noneYet way (begins-with s)
+unfolding firstBy meaning keepsOf stepDue openingStep keptReport onAnswer onOpening starts-by
+begins-by s (Bounded e) = refl
+begins-by s (Growing K) = refl
 
-first-asked : (s : Setup) → told (freshOf s .outcome) ≡ shown (hagerZhang s)
-unfolding shown hagerZhang
-first-asked s = refl
+pub starts-whole : (s : Setup) → meaning s (Open (Starting (openingOf s))) ≡ hagerZhang s
+unfolding hagerZhang
+starts-whole s = begins-by s (s .options .way)
+
+-- it asks a step, so that it is what is left once that is told
+once-asked : (s : Setup) (w : Opening) → meaning s (Open (Starting w)) ≡ onceTold (meaning s (Open (Starting w)))
+unfolding meaning onceTold
+once-asked s w = refl
+
+pub begins-whole : (s : Setup) → meant (freshOf s .search) ≡ onceTold (hagerZhang s)
+begins-whole s = once-asked s (openingOf s) ∙ ap onceTold (starts-whole s)
+
+pub first-asked : (s : Setup) → told (freshOf s .outcome) ≡ shown (hagerZhang s)
+first-asked s = unfold shown meaning stepDue in ap shown (starts-whole s)
 
 -- what a result of a start stands for, and what it says, are the rules'
 abbrev stands : Result Turn → Result (Rest Report)

@@ -21,36 +21,42 @@ use Rattle.hagerzhang.specs.declared.state.Asked.the-variants.{Update, B
 use Rattle.hagerzhang.specs.declared.state.Due.{Due}
 use Rattle.hagerzhang.specs.declared.state.Due.the-variants.{Awaited, NothingDue}
 use Rattle.hagerzhang.specs.declared.state.Waiting.{Waiting}
-use Rattle.hagerzhang.specs.declared.state.Waiting.the-variants.{Low, High, StartStep, Running}
+use Rattle.hagerzhang.specs.declared.state.Opening.{Opening}
+use Rattle.hagerzhang.specs.declared.state.Opening.the-variants.{Low, High, StartStep, First, Later, Inside}
+use Rattle.hagerzhang.specs.declared.state.Waiting.the-variants.{Starting, Running}
 use Rattle.hagerzhang.specs.declared.state.Stage.{Stage}
 use Rattle.hagerzhang.specs.declared.state.Stage.the-variants.{Open, Over}
 use Rattle.hagerzhang.specs.declared.state.Next.{Next}
+use Rattle.hagerzhang.specs.declared.opening.Opened.{Opened}
+use Rattle.hagerzhang.specs.declared.opening.Opened.the-variants.{More, Done, Not}
 use Rattle.hagerzhang.specs.declared.state.Search.{Search}
 use Rattle.hagerzhang.specs.declared.state.Turn.{Turn}
 use Rattle.hagerzhang.specs.declared.state.Started.{Started}
 use Rattle.hagerzhang.specs.declared.state.Started.the-variants.{Began, NoSearch}
 use Rattle.hagerzhang_rules.specs.Parameters.{setupOf, startRows}
-use Rattle.hagerzhang_rules.specs.Rules.{point, bracket, answerFinite}
+use Rattle.hagerzhang_rules.specs.Rules.{answerFinite}
 use Rattle.hagerzhang.specs.State.{asksOf, endedOf, turnedOf}
 use Rattle.hagerzhang.specs.Moves.{settledOf}
 use Rattle.hagerzhang.specs.Iteration.{runningOf}
+use Rattle.hagerzhang.specs.Opening.{firstOf, opensOf}
 
 -- ---- an answer
 
+-- what an answer of the start leads to
+unfoldable pub startsOf : Setup → Opened → Next
+startsOf s (More w x) = asksOf (Starting w) x
+startsOf s (Done w c) = settledOf s w c (iterations 0)
+startsOf s (Not r) = endedOf NoneYet (Refused r)
+
 unfoldable pub reactOf : Setup → Waiting → Float → Float → Next
-reactOf s Low f g = asksOf (High (point (s .options .params .min) f g)) (s .options .params .max)
-reactOf s (High a) f g =
-    asksOf (StartStep (bracket a (point (s .options .params .max) f g))) (s .options .params .start)
-reactOf s (StartStep w) f g = settledOf s w (point (s .options .params .start) f g) (iterations 0)
-reactOf s (Running last t asked) f g = runningOf s last t asked f g
+reactOf s (Starting w) f g = startsOf s (opensOf s w f g)
+reactOf s (Running t last asked) f g = runningOf s last t asked f g
 
 -- ---- what a state holds: bracket, best and iterations, or none yet; and the step at which an answer is awaited
 
 unfoldable pub keepsOf : Waiting → Kept
-keepsOf Low = NoneYet
-keepsOf (High a) = NoneYet
-keepsOf (StartStep w) = NoneYet
-keepsOf (Running last t asked) = Last last
+keepsOf (Starting w) = NoneYet
+keepsOf (Running t last asked) = Last last
 
 unfoldable pub heldAt : Stage → Kept
 heldAt (Open waiting) = keepsOf waiting
@@ -63,11 +69,17 @@ unfoldable pub stepAsked : Trial → Asked → Float
 stepAsked t (Update w) = t .x
 stepAsked t (Between e) = e .d
 
+unfoldable pub openingStep : Float → Opening → Float
+openingStep start (Low e) = e .min
+openingStep start (High a x) = x
+openingStep start (StartStep w) = start
+openingStep start (First w) = w .x
+openingStep start (Later w c) = w .x
+openingStep start (Inside e c) = e .d
+
 unfoldable pub stepDue : Setup → Waiting → Float
-stepDue s Low = s .options .params .min
-stepDue s (High a) = s .options .params .max
-stepDue s (StartStep w) = s .options .params .start
-stepDue s (Running last t asked) = stepAsked t asked
+stepDue s (Starting w) = openingStep (s .options .params .start) w
+stepDue s (Running t last asked) = stepAsked t asked
 
 unfoldable pub awaitedAt : Setup → Stage → Due
 awaitedAt s (Open waiting) = Awaited (stepDue s waiting)
@@ -93,7 +105,9 @@ answerOf s f g = answerBy s f g (s .stage)
 -- ---- a start
 
 abbrev pub freshOf : Setup → Turn
-freshOf s = turnedOf s (evaluations 0) (asksOf Low (s .options .params .min))
+freshOf s =
+    let w = firstOf s in
+    turnedOf s (evaluations 0) (asksOf (Starting w) (openingStep (s .options .params .start) w))
 
 abbrev pub startOf : Options → Float → Float → Result Turn
 startOf o f0 s0 = refuse (startRows o f0 s0) else freshOf (setupOf o f0 s0)

@@ -10,10 +10,12 @@ use Rattle.runs.specs.Outcomes.{refusal, Told, ends, alreadyOver, told}
 use Rattle.refusals.specs.Refusals.{numberOf}
 use Rattle.runs.specs.Asking.{Rest, endWith, keeping, question, respond, shown, firstOf, onceTold}
 use Rattle.runs.specs.Counters.{oneMore}
+use Rattle.hagerzhang_rules.specs.declared.Point.{Point}
 use Rattle.hagerzhang_rules.specs.declared.Bracket.{Bracket}
 use Rattle.hagerzhang_rules.specs.declared.Options.{Options}
 use Rattle.hagerzhang_rules.specs.declared.Setup.{Setup}
 use Rattle.hagerzhang.specs.declared.state.Finished.{Finished}
+use Rattle.hagerzhang.specs.declared.state.Growth.{Growth}
 use Rattle.hagerzhang.specs.declared.state.Kept.{Kept}
 use Rattle.hagerzhang.specs.declared.state.Kept.the-variants.{NoneYet, Last}
 use Rattle.hagerzhang.specs.declared.state.Rule.{Rule}
@@ -24,7 +26,9 @@ use Rattle.hagerzhang.specs.declared.state.Asked.the-variants.{Update, B
 use Rattle.hagerzhang.specs.declared.state.Due.{Due}
 use Rattle.hagerzhang.specs.declared.state.Due.the-variants.{Awaited, NothingDue}
 use Rattle.hagerzhang.specs.declared.state.Waiting.{Waiting}
-use Rattle.hagerzhang.specs.declared.state.Waiting.the-variants.{Low, High, StartStep, Running}
+use Rattle.hagerzhang.specs.declared.state.Opening.{Opening}
+use Rattle.hagerzhang.specs.declared.state.Opening.the-variants.{Low, High, StartStep, First, Later, Inside}
+use Rattle.hagerzhang.specs.declared.state.Waiting.the-variants.{Starting, Running}
 use Rattle.hagerzhang.specs.declared.state.Stage.{Stage}
 use Rattle.hagerzhang.specs.declared.state.Stage.the-variants.{Open, Over}
 use Rattle.hagerzhang.specs.declared.state.Search.{Search}
@@ -34,8 +38,11 @@ use Rattle.hagerzhang.specs.declared.state.Started.the-variants.{Began, 
 use Rattle.hagerzhang_rules.specs.Parameters.{setupOf, startRows}
 use Rattle.hagerzhang_rules.specs.Rules.{
   point,
+  bracket,
   answerFinite,
   narrowedOf,
+  zeroOf,
+  grownOf,
   Report,
   noneYet,
   last,
@@ -46,6 +53,7 @@ use Rattle.hagerzhang_rules.specs.Rules.{
   rounds,
   askStart,
   askHigh,
+  growth,
   hagerZhang,
 }
 use Rattle.hagerzhang.specs.Machine.{keepsOf, heldOf, stepDue}
@@ -76,6 +84,7 @@ dueTold NothingDue = none
 pub data OfTheStep : Option ℕ → Type 0 where
   not-refused : OfTheStep none
   six : OfTheStep (some 6)
+  eleven : OfTheStep (some 11)
   five : OfTheStep (some 5)
   seven : OfTheStep (some 7)
 
@@ -100,11 +109,29 @@ module _ (s : Setup) (fin : Finished) where
       U3 s (keeping (lastOf fin)) (lastOf fin) (e .left) (narrowedOf (s .level) (e .h) (e .k) (point (e .d) f g))
       (afterTrial (t .rule) (t .x))
 
+-- the same in the start, of which nothing is reported: behind it come the verdict and the iterations
+module _ (s : Setup) where
+  abbrev pub begins : Point → Bracket → Rest Report
+  begins c w = rounds s (s .options .limit) w c 0
+
+  -- a trial t of a start that grows is answered, and c is the first
+  abbrev pub onTrial : Growth → Point → Point → Rest Report
+  onTrial w c t =
+      growth s (keeping noneYet) noneYet (w .left) t (grownOf (s .level) (zeroOf s) (w .earlier) t) (begins c)
+
+  -- what a finite answer leads to: to 01's three steps, to a trial of a start that grows, or to a step of its U3
+  unfoldable pub onOpening : Opening → Float → Float → Rest Report
+  onOpening (Low e) f g = askHigh s (keeping noneYet) noneYet (e .max) (point (e .min) f g) begins
+  onOpening (High a x) f g = askStart s (keeping noneYet) noneYet (bracket a (point x f g)) begins
+  onOpening (StartStep w) f g = begins (point (s .options .params .start) f g) w
+  onOpening (First w) f g = onTrial w (point (w .x) f g) (point (w .x) f g)
+  onOpening (Later w c) f g = onTrial w c (point (w .x) f g)
+  onOpening (Inside e c) f g =
+      U3 s (keeping noneYet) noneYet (e .left) (narrowedOf (s .level) (e .h) (e .k) (point (e .d) f g)) (begins c)
+
 unfoldable pub onAnswer : Setup → Waiting → Float → Float → Rest Report
-onAnswer s Low f g = askHigh s (point (s .options .params .min) f g)
-onAnswer s (High a) f g = askStart s (record { a = a; b = point (s .options .params .max) f g })
-onAnswer s (StartStep w) f g = rounds s (s .options .limit) w (point (s .options .params .start) f g) 0
-onAnswer s (Running fin t asked) f g = onAsked s fin t asked f g
+onAnswer s (Starting w) f g = onOpening s w f g
+onAnswer s (Running t fin asked) f g = onAsked s fin t asked f g
 
 unfoldable pub meaning : Setup → Stage → Rest Report
 meaning s (Open waiting) =

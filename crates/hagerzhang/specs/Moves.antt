@@ -24,6 +24,8 @@ use Rattle.hagerzhang.specs.declared.state.Asked.the-variants.{Update, B
 use Rattle.hagerzhang.specs.declared.state.Waiting.the-variants.{Running}
 use Rattle.hagerzhang.specs.declared.moves.Move.{Move}
 use Rattle.hagerzhang.specs.declared.moves.Move.the-variants.{Try, Narrow, ByVerdict, ByLimit}
+use Rattle.hagerzhang.specs.declared.moves.Probed.{Probed}
+use Rattle.hagerzhang.specs.declared.moves.Probed.the-variants.{Passes, Barred}
 use Rattle.hagerzhang.specs.declared.moves.Tested.{Tested}
 use Rattle.hagerzhang.specs.declared.moves.Tested.the-variants.{Asks, Narrows, Stops}
 use Rattle.hagerzhang.specs.declared.state.Next.{Next}
@@ -39,22 +41,29 @@ refusedOf r = Stops (Refused r)
 unfoldable pub attemptOf : Bracket → Trial → Tested
 attemptOf u t = cond (finite (t .x)) (Asks u t) (refusedOf StepNotFinite)
 
-unfoldable pub probeOf : Float → Trial → Point → Float → ℕ → Tested
-probeOf theta t h k left =
+unfoldable pub probeOf : Float → Point → Float → ℕ → Probed
+probeOf theta h k left =
     let d = middleOf theta h k in
-    cond (eqb left 0) (refusedOf BudgetSpent)
-    (cond (finite d) (cond (h .x <ᶠ d && d <ᶠ k) (Narrows t (narrowing h k d (left - 1))) (refusedOf StepNotBetween))
-    (refusedOf StepNotFinite))
+    cond (eqb left 0) (Barred BudgetSpent)
+    (cond (finite d) (cond (h .x <ᶠ d && d <ᶠ k) (Passes (narrowing h k d (left - 1))) (Barred StepNotBetween))
+    (Barred StepNotFinite))
+
+unfoldable pub narrowBy : Trial → Probed → Tested
+narrowBy t (Passes e) = Narrows t e
+narrowBy t (Barred r) = refusedOf r
+
+abbrev pub narrowOf : Float → Trial → Point → Float → ℕ → Tested
+narrowOf theta t h k left = narrowBy t (probeOf theta h k left)
 
 unfoldable pub testOf : Float → Float → Move → Tested
 testOf theta best (Try u t) = attemptOf u t
-testOf theta best (Narrow t h k left) = probeOf theta t h k left
+testOf theta best (Narrow t h k left) = narrowOf theta t h k left
 testOf theta best (ByVerdict v) = Stops (Stop v best)
 testOf theta best ByLimit = Stops (Limit best)
 
 unfoldable pub madeBy : Finished → Tested → Next
-madeBy last (Asks u t) = asksOf (Running last t (Update u)) (t .x)
-madeBy last (Narrows t e) = asksOf (Running last t (Between e)) (e .d)
+madeBy last (Asks u t) = asksOf (Running t last (Update u)) (t .x)
+madeBy last (Narrows t e) = asksOf (Running t last (Between e)) (e .d)
 madeBy last (Stops o) = endedOf (Last last) o
 
 abbrev pub madeOf : Float → Finished → Move → Next

@@ -10,6 +10,7 @@ use Rattle.hagerzhang_rules.specs.declared.Point.{Point}
 use Rattle.hagerzhang_rules.specs.declared.Setup.{Setup}
 use Rattle.hagerzhang.specs.declared.state.Kept.{Kept}
 use Rattle.hagerzhang.specs.declared.state.Narrowing.{Narrowing}
+use Rattle.hagerzhang.specs.declared.state.Growth.{Growth}
 use Rattle.hagerzhang.specs.declared.state.Waiting.{Waiting}
 use Rattle.hagerzhang.specs.declared.state.Stage.{Stage}
 use Rattle.hagerzhang.specs.declared.state.Stage.the-variants.{Open, Over}
@@ -18,6 +19,9 @@ use Rattle.hagerzhang.specs.declared.state.Turn.{Turn}
 
 abbrev pub narrowing : Point → Float → Float → ℕ → Narrowing
 narrowing h k d left = record { h = h; k = k; d = d; left = left }
+
+abbrev pub growing : Point → Float → ℕ → Growth
+growing earlier x left = record { earlier = earlier; x = x; left = left }
 
 abbrev pub next : Stage → Outcome → Next
 next s o = record { stage = s; outcome = o }

@@ -1,15 +1,15 @@
 // Hager-Zhang as a machine. The search hands out a step and is given cost and slope there. An answer comes to a bracket
 // or goes on in U3 (Came), something follows in the iteration (Then), the search moves (Move), and one place writes the
-// next state. The files go down in this order: the entry here, iteration.rt, moves.rt, state.rt.
+// next state. An answer of the start leads to its next step, to its end or to a refusal (Opened). The files go down in
+// this order: the entry here, opening.rt and iteration.rt, moves.rt, state.rt.
 
+use crate::opening::Opened;
 use crate::state::Next;
 use crate::state::asks;
 use crate::state::ended;
 use crate::state::turned;
 use hagerzhang_decisions::parameters;
-use hagerzhang_rules::Bracket;
 use hagerzhang_rules::Options;
-use hagerzhang_rules::Point;
 use hagerzhang_rules::Setup;
 use refusals::Refusal;
 use runs::Evaluations;
@@ -26,9 +26,11 @@ ghost use Rattle.hagerzhang.specs.Machine.{
   StartSaid,
   AnswerSaid,
   reactOf,
+  startsOf,
   keepsOf,
   heldOf,
   stepAsked,
+  openingStep,
   stepDue,
   awaitedOf,
   takenOf,
@@ -36,14 +38,17 @@ ghost use Rattle.hagerzhang.specs.Machine.{
 ghost use Rattle.hagerzhang.specs.Meaning.{keptReport, dueTold, meant, Starts, Follows};
 
 mod iteration; // the way of an answer in an iteration, up to a move or its end
+mod opening; // the way of an answer in the start
 mod moves; // the end of an iteration, and a move made
 mod state; // the state, and its three builders
 
 pub use state::Asked;
 pub use state::Due;
 pub use state::Finished;
+pub use state::Growth;
 pub use state::Kept;
 pub use state::Narrowing;
+pub use state::Opening;
 pub use state::Rule;
 pub use state::Search;
 pub use state::Stage;
@@ -54,7 +59,7 @@ pub use state::Waiting;
 
 // ---- a start
 
-// A search that asks the low bound first, for cost f0 and slope s0 at step 0; or why there is none.
+// A search that asks its first step, for cost f0 and slope s0 at step 0; or why there is none.
 pub fn start(o: Options, f0: f64, s0: f64) -> Started
     ensures exact { λ r. ⌜ StartSaid o f0 s0 r ⌝ }
     ensures rules { λ r. ⌜ Starts o f0 s0 r ⌝ }
@@ -64,6 +69,10 @@ pub fn start(o: Options, f0: f64, s0: f64) -> Started
     }
     if !parameters::in_ranges(o) {
         return Started::NoSearch(Refusal::OutOfRange);
+    }
+    let way = o.way;
+    if parameters::not_downhill(way, s0) {
+        return Started::NoSearch(Refusal::NotDownhill);
     }
     let epsilon_k = o.params.epsilon * numbers::abs(f0);
     let level = f0 + epsilon_k;
@@ -82,7 +91,15 @@ pub fn start(o: Options, f0: f64, s0: f64) -> Started
 fn fresh(s: Setup) -> Turn
     ensures { λ r. ⌜ r ≡ freshOf s ⌝ }
 {
-    turned(s, Evaluations(0), asks(Waiting::Low, s.options.params.min))
+    let w = opening::first(s);
+    turned(
+        s,
+        Evaluations(0),
+        asks(
+            Waiting::Starting(w),
+            opening_step(s.options.params.start, w),
+        ),
+    )
 }
 
 // ---- the way of an answer
@@ -114,26 +131,30 @@ fn taken(s: Setup, n: Evaluations, waiting: Waiting, f: f64, g: f64) -> Turn
     turned(s, n, ended(keeps(waiting), outcome))
 }
 
-// A finite answer: the first three fill in the start.
+// A finite answer.
 fn react(s: Setup, waiting: Waiting, f: f64, g: f64) -> Next
     ensures { λ r. ⌜ r ≡ reactOf s waiting f g ⌝ }
 {
-    let p = s.options.params;
     match waiting {
-        Waiting::Low => asks(Waiting::High(Point { x: p.min, f, g }), p.max),
-        Waiting::High(a) => {
-            let b = Point { x: p.max, f, g };
-            asks(Waiting::StartStep(Bracket { a, b }), p.start)
-        }
-        Waiting::StartStep(w) => moves::settled(s, w, Point { x: p.start, f, g }, Iterations(0)),
-        Waiting::Running(last, t, asked) => iteration::running(s, last, t, asked, f, g),
+        Waiting::Starting(w) => starts(s, opening::opens(s, w, f, g)),
+        Waiting::Running(t, last, asked) => iteration::running(s, last, t, asked, f, g),
+    }
+}
+
+// What an answer of the start leads to. A search that ends in its start keeps nothing.
+fn starts(s: Setup, o: Opened) -> Next
+    ensures { λ r. ⌜ r ≡ startsOf s o ⌝ }
+{
+    match o {
+        Opened::More(w, x) => asks(Waiting::Starting(w), x),
+        Opened::Done(w, c) => moves::settled(s, w, c, Iterations(0)),
+        Opened::Not(r) => ended(Kept::NoneYet, Outcome::Refused(r)),
     }
 }
 
 // ---- what a search holds
 
-// Bracket, best and iterations of the last finished iteration, or of the start; none yet during the first three
-// answers.
+// Bracket, best and iterations of the last finished iteration, or of the start; none yet during the start.
 pub fn held(s: Search) -> Kept
     ensures exact { λ r. ⌜ r ≡ heldOf s ⌝ }
     ensures rules { λ r. ⌜ keptReport r ≡ reported (meant s) ⌝ }
@@ -172,12 +193,22 @@ pub fn awaited(s: Search) -> Due
 fn step_due(s: Setup, waiting: Waiting) -> f64
     ensures { λ r. ⌜ r ≡ stepDue s waiting ⌝ }
 {
-    let p = s.options.params;
     match waiting {
-        Waiting::Low => p.min,
-        Waiting::High(_) => p.max,
-        Waiting::StartStep(_) => p.start,
-        Waiting::Running(_, t, asked) => step_asked(t, asked),
+        Waiting::Starting(w) => opening_step(s.options.params.start, w),
+        Waiting::Running(t, _, asked) => step_asked(t, asked),
+    }
+}
+
+fn opening_step(start: f64, w: Opening) -> f64
+    ensures { λ r. ⌜ r ≡ openingStep start w ⌝ }
+{
+    match w {
+        Opening::Low(e) => e.min,
+        Opening::High(_, x) => x,
+        Opening::StartStep(_) => start,
+        Opening::First(w) => w.x,
+        Opening::Later(w, _) => w.x,
+        Opening::Inside(e, _) => e.d,
     }
 }
 
@@ -195,9 +226,7 @@ fn keeps(waiting: Waiting) -> Kept
     ensures { λ r. ⌜ r ≡ keepsOf waiting ⌝ }
 {
     match waiting {
-        Waiting::Low => Kept::NoneYet,
-        Waiting::High(_) => Kept::NoneYet,
-        Waiting::StartStep(_) => Kept::NoneYet,
-        Waiting::Running(last, _, _) => Kept::Last(last),
+        Waiting::Starting(_) => Kept::NoneYet,
+        Waiting::Running(_, last, _) => Kept::Last(last),
     }
 }

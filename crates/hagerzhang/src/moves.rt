@@ -28,6 +28,7 @@ ghost use Rattle.hagerzhang.specs.Moves.{
   madeOf,
   testOf,
   attemptOf,
+  narrowOf,
   probeOf,
   refusedOf,
 };
@@ -90,7 +91,7 @@ fn test(theta: f64, best: f64, m: Move) -> Tested
 {
     match m {
         Move::Try(u, t) => attempt(u, t),
-        Move::Narrow(t, h, k, left) => probe(theta, t, h, k, left),
+        Move::Narrow(t, h, k, left) => narrow(theta, t, h, k, left),
         Move::ByVerdict(v) => Tested::Stops(Outcome::Stop(v, best)),
         Move::ByLimit => Tested::Stops(Outcome::Limit(best)),
     }
@@ -106,22 +107,38 @@ fn attempt(u: Bracket, t: Trial) -> Tested
     refused(Refusal::StepNotFinite)
 }
 
+// U3's next step is asked, where it passes.
+fn narrow(theta: f64, t: Trial, h: Point, k: f64, left: u32) -> Tested
+    ensures { λ r. ⌜ r ≡ narrowOf theta t h k left ⌝ }
+{
+    match probe(theta, h, k, left) {
+        Probed::Passes(e) => Tested::Narrows(t, e),
+        Probed::Barred(r) => refused(r),
+    }
+}
+
+// What the test of U3's next step comes to.
+pub(crate) enum Probed {
+    Passes(Narrowing),
+    Barred(Refusal),
+}
+
 // U3's next step is asked where an answer may still come (6) and it is finite (5) and strictly between the ends (7).
-fn probe(theta: f64, t: Trial, h: Point, k: f64, left: u32) -> Tested
-    ensures { λ r. ⌜ r ≡ probeOf theta t h k left ⌝ }
+pub(crate) fn probe(theta: f64, h: Point, k: f64, left: u32) -> Probed
+    ensures { λ r. ⌜ r ≡ probeOf theta h k left ⌝ }
 {
     if left == 0 {
-        return refused(Refusal::BudgetSpent);
+        return Probed::Barred(Refusal::BudgetSpent);
     }
     let d = bracketing::middle(theta, h, k);
     if !numbers::is_finite(d) {
-        return refused(Refusal::StepNotFinite);
+        return Probed::Barred(Refusal::StepNotFinite);
     }
     if (h.x < d) & (d < k) {
         let left = left - 1;
-        return Tested::Narrows(t, Narrowing { h, k, d, left });
+        return Probed::Passes(Narrowing { h, k, d, left });
     }
-    refused(Refusal::StepNotBetween)
+    Probed::Barred(Refusal::StepNotBetween)
 }
 
 fn refused(r: Refusal) -> Tested
@@ -135,8 +152,8 @@ pub(crate) fn made(theta: f64, last: Finished, m: Move) -> Next
     ensures { λ r. ⌜ r ≡ madeOf theta last m ⌝ }
 {
     match test(theta, last.best.x, m) {
-        Tested::Asks(u, t) => asks(Waiting::Running(last, t, Asked::Update(u)), t.x),
-        Tested::Narrows(t, e) => asks(Waiting::Running(last, t, Asked::Between(e)), e.d),
+        Tested::Asks(u, t) => asks(Waiting::Running(t, last, Asked::Update(u)), t.x),
+        Tested::Narrows(t, e) => asks(Waiting::Running(t, last, Asked::Between(e)), e.d),
         Tested::Stops(outcome) => ended(Kept::Last(last), outcome),
     }
 }

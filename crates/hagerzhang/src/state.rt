@@ -1,5 +1,6 @@
 // The state of a search, and its three builders: a step is asked, the search is over, and the search with its outcome.
 
+use hagerzhang_rules::Bounds;
 use hagerzhang_rules::Bracket;
 use hagerzhang_rules::Point;
 use hagerzhang_rules::Setup;
@@ -18,7 +19,7 @@ pub struct Finished {
     pub iterations: Iterations,
 }
 
-// What a search that is over keeps. During the first three answers there is no bracket and no best.
+// What a search that is over keeps. During the start there is no bracket and no best.
 pub enum Kept {
     NoneYet,
     Last(Finished),
@@ -44,6 +45,26 @@ pub struct Narrowing {
     pub left: u32,
 }
 
+// A start that grows asks x. The trial before it, or the point at 0, is `earlier`; after this answer the step may grow
+// `left` times more.
+pub struct Growth {
+    pub earlier: Point,
+    pub x: f64,
+    pub left: u32,
+}
+
+// What a start asked.
+pub enum Opening {
+    // 01's: at min, where max comes next; at max, behind the answer at min; at the start step
+    Low(Bounds),
+    High(Point, f64),
+    StartStep(Bracket),
+    // of 02's request 3: at a trial; in its U3 run, behind the first trial
+    First(Growth),
+    Later(Growth, Point),
+    Inside(Narrowing, Point),
+}
+
 // What an iteration asked: the trial's own step, to update a bracket with, or a step of U3.
 pub enum Asked {
     Update(Bracket),
@@ -56,12 +77,10 @@ pub enum Due {
     NothingDue,
 }
 
-// What the search waits for: the answers of the start, or one in an iteration.
+// What the search waits for: an answer of the start, behind which nothing is finished, or one in an iteration.
 pub enum Waiting {
-    Low,
-    High(Point),
-    StartStep(Bracket),
-    Running(Finished, Trial, Asked),
+    Starting(Opening),
+    Running(Trial, Finished, Asked),
 }
 
 pub enum Stage {

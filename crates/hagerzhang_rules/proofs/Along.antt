@@ -5,7 +5,7 @@
 use mathlib.Core.Path.{_≡_, subst}
 use mathlib.Core.Bool.{true, cond}
 use mathlib.Core.List.{List, [], _∷_}
-use Prim.Native.Nat.{_+_, _*_, _≤_}
+use Prim.Native.Nat.{ℕ, _+_, _≤_}
 use native.Mathlib.Omega.{arith}
 use lib.Dec.{ltb}
 use lib.ListN.{length}
@@ -15,13 +15,14 @@ use Rattle.runs.specs.Outcomes.{asks, numbered}
 use Rattle.runs.specs.Asking.{Rest, Ended, end, Reply, respond, shown, reported, after}
 use Rattle.runs.proofs.Apart.{asks-not-ends, same-step}
 use Rattle.hagerzhang_rules.specs.declared.Point.{Point}
+use Rattle.hagerzhang_rules.specs.declared.Way.the-variants.{Growing}
 use Rattle.hagerzhang_rules.specs.declared.Setup.{Setup}
 use Rattle.hagerzhang_rules.specs.Rules.{Summary, Report, noneYet, last, iterationsIn}
 use Rattle.hagerzhang_rules.specs.Brackets.{premise, Ordered}
 use Rattle.hagerzhang_rules.specs.Iterations.{Whole, Brings, as-before, first, finished-one, EndedBecause}
 use Rattle.hagerzhang_rules.specs.Iterations.{already}
 use Rattle.hagerzhang_rules.proofs.UnderWay.{noted, kept, under-way, finished-by}
-use Rattle.hagerzhang_rules.proofs.Iterations.{Fine, Asks, in-start, in-iteration, Stands, awaiting, ended}
+use Rattle.hagerzhang_rules.proofs.Iterations.{Fine, mostAt, Asks, Stands, awaiting, ended}
 use Rattle.hagerzhang_rules.proofs.Iterations.{no-further}
 
 module _ {s : Setup} {asked : List Point} where
@@ -31,9 +32,9 @@ module _ {s : Setup} {asked : List Point} where
   report-fine (awaiting fine why u b go) = fine
   report-fine (ended fine few why) = fine
 
-  pub few-asked : {r : Rest Report} → Stands s asked r → length asked ≤ 3 + 3 * s .options .budget
-  few-asked (awaiting fine (in-start room fx) u b go) = omega arith
-  few-asked (awaiting fine (in-iteration room below why) u b go) = omega arith
+  pub few-asked : {r : Rest Report} → Stands s asked r → length asked ≤ mostAt s (reported r)
+  unfolding reported
+  few-asked (awaiting fine here u b go) = let room = here .room in omega arith
   few-asked (ended fine few why) = few
 
   pub asks-at : {r : Rest Report} (x : Float) → Stands s asked r → shown r ≡ asks x → Asks s asked x (reported r)
@@ -67,7 +68,7 @@ finished-now (finished-one i' f) i = f
 counts-one : {s : Setup} {asked : List Point} {k l : Report} → Brings s asked k l
     → iterationsIn l ≡ iterationsIn k + cond (ltb (iterationsIn k) (iterationsIn l)) 1 0
 counts-one {k = k} as-before = rw (le-ltb (iterationsIn k) (iterationsIn k) (omega arith)) (omega arith)
-counts-one (first i) = rw i
+counts-one (first new) = rw (new .none-finished)
 counts-one (finished-one {p = p} {q = q} i f) =
     rw (lt-ltb (p .iterations) (q .iterations) (omega arith)) (omega arith)
 
@@ -108,3 +109,22 @@ pub holds-along : {s : Setup} (ys : List Reply) {asked : List Point} {r : Rest R
 unfolding after
 holds-along [] a h = h
 holds-along (y ∷ ys) a h = holds-along ys (stands-after y a) (holds-moved (answer-moves y a) h)
+
+-- ---- after a start that grows every bracket that is reported meets the three: the first by `Opens`, and then as above
+abbrev pub Premised : Float → Report → Type 0
+Premised L noneYet = Unit {0}
+Premised L (last p) = premise L (p .bracket .a) (p .bracket .b) ≡ true
+
+premised-moved : {s : Setup} {asked : List Point} {k l : Report} (K : ℕ) → s .options .way ≡ Growing K
+    → Brings s asked k l → Premised (s .level) k → Premised (s .level) l
+premised-moved K is as-before h = h
+premised-moved K is (first new) h = new .grew K is .premise-holds
+premised-moved K is (finished-one i f) h = f .stays h
+
+pub premised-along : {s : Setup} (K : ℕ) → s .options .way ≡ Growing K → (ys : List Reply) {asked : List Point}
+    {r : Rest Report} → Stands s asked r → Premised (s .level) (reported r)
+    → Premised (s .level) (reported (after r ys))
+unfolding after
+premised-along K is [] a h = h
+premised-along K is (y ∷ ys) a h =
+    premised-along K is ys (stands-after y a) (premised-moved K is (answer-moves y a) h)

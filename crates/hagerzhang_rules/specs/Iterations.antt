@@ -1,5 +1,5 @@
--- Demand 3's words, over the rules of specs/Rules.antt: what was asked in an iteration, when it is finished and what it
--- leaves; where U3 stands; and why a step is asked, or a search is over.
+-- Demand 3's words, over the rules of specs/Rules.antt: what was asked in the start or an iteration, when it is
+-- finished and what it leaves; where U3 stands; and why a step is asked, or a search is over.
 use Prim.Native.Nat.{ℕ, suc, _+_, _*_, _≤_, _<_}
 use mathlib.Core.Path.{_≡_}
 use mathlib.Core.Bool.{Bool, true, false, _&&_}
@@ -7,36 +7,44 @@ use mathlib.Core.List.{List, [], _∷_}
 use mathlib.Core.Logic.{_⊎_, inl, inr}
 use mathlib.Core.Option.{Option, some, none}
 use lib.ListN.{length}
-use lib.Ieee.{Float}
+use lib.Ieee.{Float, binary64, fits}
 use lib.Ieee.Scale.{finite}
 use Rattle.floats.specs.Arithmetic.{_<ᶠ_}
 use Rattle.runs.specs.Outcomes.{Ending, stop, limit, refusal, Why, answerNotFinite, stepNotFinite, budgetSpent}
-use Rattle.runs.specs.Outcomes.{stepNotBetween, alreadyOver, verdictWord}
+use Rattle.runs.specs.Outcomes.{stepNotBetween, growthsSpent, alreadyOver, verdictWord}
 use Rattle.runs.specs.declared.Verdict.{Verdict}
 use Rattle.runs.specs.Asking.{Run, ask, end}
 use Rattle.hagerzhang_rules.specs.declared.Point.{Point}
 use Rattle.hagerzhang_rules.specs.declared.Bracket.{Bracket}
+use Rattle.hagerzhang_rules.specs.declared.Bounds.{Bounds}
+use Rattle.hagerzhang_rules.specs.declared.Way.{Way}
+use Rattle.hagerzhang_rules.specs.declared.Way.the-variants.{Bounded, Growing}
 use Rattle.hagerzhang_rules.specs.declared.Options.{Options}
 use Rattle.hagerzhang_rules.specs.declared.Setup.{Setup}
 use Rattle.hagerzhang_rules.specs.declared.Came.{Came}
 use Rattle.hagerzhang_rules.specs.declared.Came.the-variants.{To, On}
+use Rattle.hagerzhang_rules.specs.declared.Grown.{Grown}
+use Rattle.hagerzhang_rules.specs.declared.Grown.the-variants.{Enough, TooShort}
 use Rattle.hagerzhang_rules.specs.declared.Judged.the-variants.{Holds, Fails}
 use Rattle.hagerzhang_rules.specs.Brackets.{premise, Ordered, Within}
-use Rattle.hagerzhang_rules.specs.Rules.{point, answerFinite, updateOf, middleOf, narrowedOf, judgeOf, iteration}
-use Rattle.hagerzhang_rules.specs.Rules.{Summary, Report, noneYet, last}
+use Rattle.hagerzhang_rules.specs.Rules.{point, answerFinite, updateOf, middleOf, narrowedOf, zeroOf, grownOf}
+use Rattle.hagerzhang_rules.specs.Rules.{longerOf, judgeOf, iteration, starting, Summary, Report, noneYet, last}
 
 -- how far a search is by its report: at 0 in its start, then 1 more than its finished iterations
 abbrev pub progress : Report → ℕ
 progress noneYet = 0
 progress (last p) = suc (p .iterations)
 
--- ---- an iteration by itself: it comes to a refusal, or to the next bracket
+-- ---- the start or an iteration by itself: it comes to a refusal, or to a bracket
 
 abbrev pub Alone : Type 0
 Alone = Run Report (Why ⊎ Bracket)
 
 abbrev pub alone : Setup → Report → Bracket → Alone
 alone s k w = iteration s inl k w (λ v. end (inr v))
+
+abbrev pub startAlone : Setup → Alone
+startAlone s = starting s inl noneYet (s .options .way) (λ c w. end (inr w))
 
 -- the points are asked of a run one after the other, newest first, and with their answers it comes to this
 pub data Plays (r : Alone) : List Point → Alone → Type 0 where
@@ -59,6 +67,40 @@ pub data Came-from (w : Bracket) (asked : List Point) (p : Point) : Type 0 where
 abbrev pub mostInIteration : Options → ℕ
 mostInIteration o = 3 + 3 * o .budget
 
+-- 02, request 3: "The three start answers are replaced by at most 1+K+B"
+abbrev pub mostBy : Way → ℕ → ℕ
+mostBy (Bounded e) B = 3
+mostBy (Growing K) B = 1 + K + B
+
+abbrev pub mostInStart : Options → ℕ
+mostInStart o = mostBy (o .way) (o .budget)
+
+-- the largest number of answers that any search can take: at B = 1,000, N = 10,000 and K = 400
+abbrev pub mostEver : Way → ℕ
+mostEver (Bounded e) = 30030003
+mostEver (Growing K) = 30031401
+
+-- an end of the bracket of a start that grows: "step 0 with f0 and s0", or a step asked in the start with its answer
+pub data Started-from (s : Setup) (asked : List Point) (p : Point) : Type 0 where
+  at-zero : p ≡ zeroOf s → Started-from s asked p
+  asked-then : OneOf p asked → Started-from s asked p
+
+-- what a start that grows comes to. 02, request 3: "demand 3's premise then holds without being assumed whenever this
+-- start succeeds"
+pub record Grew (s : Setup) (asked : List Point) (u : Bracket) : Type 0 where
+  pub premise-holds : premise (s .level) (u .a) (u .b) ≡ true
+  pub low-from : Started-from s asked (u .a)
+  pub high-from : OneOf (u .b) asked
+
+-- what a finished start leaves
+pub record Opens (s : Setup) (asked : List Point) (q : Summary) : Type 0 where
+  -- its answers, and no others, lead the start to the first bracket
+  pub whole : Plays (startAlone s) asked (end (inr (q .bracket)))
+  pub none-finished : q .iterations ≡ 0
+  pub ordered : Ordered (q .bracket)
+  pub few : length asked ≤ mostInStart (s .options)
+  pub grew : (K : ℕ) → s .options .way ≡ Growing K → Grew s asked (q .bracket)
+
 -- what a finished iteration leaves
 pub record Whole (s : Setup) (p : Summary) (asked : List Point) (q : Summary) : Type 0 where
   -- its answers, and no others, lead 01's iteration on the former bracket to the new one
@@ -78,20 +120,41 @@ pub record Whole (s : Setup) (p : Summary) (asked : List Point) (q : Summary) : 
 -- what one answer brings: the report as it was; the first, with the start; or an iteration finished, and counted
 pub data Brings (s : Setup) (asked : List Point) : Report → Report → Type 0 where
   as-before : {k : Report} → Brings s asked k k
-  first : {q : Summary} → q .iterations ≡ 0 → Brings s asked noneYet (last q)
+  first : {q : Summary} → Opens s asked q → Brings s asked noneYet (last q)
   finished-one : {p q : Summary} → q .iterations ≡ p .iterations + 1 → Whole s p asked q
       → Brings s asked (last p) (last q)
 
--- ---- where an iteration on w stands once these points are asked: at a bracket, or in U3 with its ends
+-- ---- where the start, or an iteration on the reported bracket, stands once these points are asked: at a bracket, or
+-- in U3 with its ends; a start that has come to neither stands at `none`
 
-abbrev pub led : Setup → Option Came → Point → Option Came
-led s none d = none
-led s (some (To u)) d = updateOf (s .level) u d
-led s (some (On h k)) d = some (narrowedOf (s .level) h k d)
+-- "the last earlier trial (or 0)"
+abbrev pub earlierOf : Setup → List Point → Point
+earlierOf s [] = zeroOf s
+earlierOf s (t ∷ asked) = t
 
-unfoldable pub standing : Setup → Bracket → List Point → Option Came
-standing s w [] = some (To w)
-standing s w (d ∷ asked) = led s (standing s w asked) d
+abbrev pub cameBy : Grown → Option Came
+cameBy (Enough came) = some came
+cameBy TooShort = none
+
+-- one more answer d of the start; 01's three never stand in U3, and the third finishes the start
+abbrev pub tried : Setup → Way → Point → Point → Option Came
+tried s (Bounded e) earlier d = none
+tried s (Growing K) earlier d = cameBy (grownOf (s .level) (zeroOf s) earlier d)
+
+-- one more answer d; a start that has come to a bracket is finished, and never goes on from it
+abbrev pub led : Setup → Option Came → Report → Point → Point → Option Came
+led s (some (To u)) k earlier d = updateOf (s .level) u d
+led s (some (On h k')) k earlier d = some (narrowedOf (s .level) h k' d)
+led s none noneYet earlier d = tried s (s .options .way) earlier d
+led s none (last p) earlier d = none
+
+abbrev pub first-standing : Report → Option Came
+first-standing noneYet = none
+first-standing (last p) = some (To (p .bracket))
+
+unfoldable pub standing : Setup → Report → List Point → Option Came
+standing s k [] = first-standing k
+standing s k (d ∷ asked) = led s (standing s k asked) k (earlierOf s asked) d
 
 -- how many answers the U3 run has had
 abbrev pub hadBy : Option Came → ℕ → ℕ
@@ -99,28 +162,40 @@ hadBy none n = 0
 hadBy (some (To u)) n = 0
 hadBy (some (On h k)) n = suc n
 
-unfoldable pub had : Setup → Bracket → List Point → ℕ
-had s w [] = 0
-had s w (d ∷ asked) = hadBy (standing s w asked) (had s w asked)
+unfoldable pub had : Setup → Report → List Point → ℕ
+had s k [] = 0
+had s k (d ∷ asked) = hadBy (standing s k asked) (had s k asked)
 
--- U3 stands between h and k, and its next step is d
-pub record InU3 (s : Setup) (w : Bracket) (asked : List Point) (h : Point) (k d : Float) : Type 0 where
-  pub stands : standing s w asked ≡ some (On h k)
-  pub answered : had s w asked < s .options .budget
-  pub steps-to : d ≡ middleOf (s .options .params .theta) h k
+-- U3 stands between h and k', and its next step is d
+pub record InU3 (s : Setup) (k : Report) (asked : List Point) (h : Point) (k' d : Float) : Type 0 where
+  pub stands : standing s k asked ≡ some (On h k')
+  pub answered : had s k asked < s .options .budget
+  pub steps-to : d ≡ middleOf (s .options .params .theta) h k'
 
--- ---- why a step x is asked in an iteration that began with the report p and has asked these points: it is finite;
--- 01's iteration alone asks it there; and in U3 it is strictly between the ends
+-- ---- why a step x is asked where k is reported, in the start or in the iteration that began there, which has asked
+-- these points: it is finite; 01's start or iteration alone asks it there; in a start that grows it is the start step,
+-- or 5 times the last; and in U3 it is strictly between the ends
 
-pub data AskedBecause (s : Setup) (p : Summary) (asked : List Point) (x : Float) : Type 0 where
-  as-trial : {u : Bracket} {then : Float → Float → Alone} → standing s (p .bracket) asked ≡ some (To u)
+pub data AskedBecause (s : Setup) : Report → List Point → Float → Type 0 where
+  of-bounds : {e : Bounds} {asked : List Point} {x : Float} {then : Float → Float → Alone}
+      → s .options .way ≡ Bounded e
+      → Plays (startAlone s) asked (ask noneYet x then)
+      → finite x ≡ true
+      → AskedBecause s noneYet asked x
+  as-first : {K : ℕ} → s .options .way ≡ Growing K → finite (s .options .params .start) ≡ true
+      → AskedBecause s noneYet [] (s .options .params .start)
+  as-longer : {K : ℕ} {t : Point} {asked : List Point} → s .options .way ≡ Growing K
+      → standing s noneYet (t ∷ asked) ≡ none → length asked < K → finite (longerOf t) ≡ true
+      → AskedBecause s noneYet (t ∷ asked) (longerOf t)
+  as-trial : {p : Summary} {asked : List Point} {x : Float} {u : Bracket} {then : Float → Float → Alone}
+      → standing s (last p) asked ≡ some (To u)
       → Plays (alone s (last p) (p .bracket)) asked (ask (last p) x then)
       → finite x ≡ true
-      → AskedBecause s p asked x
-  inside : {h : Point} {k : Float} → InU3 s (p .bracket) asked h k x
+      → AskedBecause s (last p) asked x
+  inside : {k : Report} {asked : List Point} {x : Float} {h : Point} {k' : Float} → InU3 s k asked h k' x
       → finite x ≡ true
-      → (h .x <ᶠ x && x <ᶠ k) ≡ true
-      → AskedBecause s p asked x
+      → (h .x <ᶠ x && x <ᶠ k') ≡ true
+      → AskedBecause s k asked x
 
 -- ---- why a search ended that keeps this report and has asked these points since
 
@@ -134,22 +209,31 @@ pub data EndedBecause (s : Setup) : Report → List Point → Ending Why → Typ
   -- 2: the last answer
   not-finite : {k : Report} {d : Point} {asked : List Point}
       → answerFinite (d .f) (d .g) ≡ false → EndedBecause s k (d ∷ asked) (refusal (answerNotFinite (d .f) (d .g)))
-  -- 5: of a trial, which is 01's own there, and in U3
+  -- 5: of a trial, which is 01's own there, of a start that grows, and in U3
   trial-not-finite : {p : Summary} {asked : List Point} {u : Bracket} {x : Float}
-      → standing s (p .bracket) asked ≡ some (To u)
+      → standing s (last p) asked ≡ some (To u)
       → Plays (alone s (last p) (p .bracket)) asked (end (inl (stepNotFinite x)))
       → finite x ≡ false
       → EndedBecause s (last p) asked (refusal (stepNotFinite x))
-  U3-not-finite : {p : Summary} {asked : List Point} {h : Point} {k x : Float}
-      → InU3 s (p .bracket) asked h k x → finite x ≡ false → EndedBecause s (last p) asked (refusal (stepNotFinite x))
+  growth-not-finite : {K : ℕ} {t : Point} {asked : List Point} → s .options .way ≡ Growing K
+      → answerFinite (t .f) (t .g) ≡ true
+      → standing s noneYet (t ∷ asked) ≡ none → length asked < K → finite (longerOf t) ≡ false
+      → EndedBecause s noneYet (t ∷ asked) (refusal (stepNotFinite (longerOf t)))
+  U3-not-finite : {k : Report} {asked : List Point} {h : Point} {k' x : Float}
+      → InU3 s k asked h k' x → finite x ≡ false → EndedBecause s k asked (refusal (stepNotFinite x))
   -- 6: "one U3 run has had B answers and the last did not end it"
-  budget-spent : {p : Summary} {asked : List Point} {h : Point} {k : Float}
-      → standing s (p .bracket) asked ≡ some (On h k) → had s (p .bracket) asked ≡ s .options .budget
-      → EndedBecause s (last p) asked (refusal (budgetSpent (h .x) k))
+  budget-spent : {k : Report} {asked : List Point} {h : Point} {k' : Float}
+      → standing s k asked ≡ some (On h k') → had s k asked ≡ s .options .budget
+      → EndedBecause s k asked (refusal (budgetSpent (h .x) k'))
   -- 7: "U3's next step is not strictly between its two ends"
-  not-between : {p : Summary} {asked : List Point} {h : Point} {k x : Float}
-      → InU3 s (p .bracket) asked h k x → finite x ≡ true → (h .x <ᶠ x && x <ᶠ k) ≡ false
-      → EndedBecause s (last p) asked (refusal (stepNotBetween (h .x) k x))
+  not-between : {k : Report} {asked : List Point} {h : Point} {k' x : Float}
+      → InU3 s k asked h k' x → finite x ≡ true → (h .x <ᶠ x && x <ᶠ k') ≡ false
+      → EndedBecause s k asked (refusal (stepNotBetween (h .x) k' x))
+  -- 11 (02, request 3): "if K growths are used up": after the first trial and K longer ones none was enough
+  growths-spent : {K : ℕ} {t : Point} {asked : List Point} → s .options .way ≡ Growing K
+      → answerFinite (t .f) (t .g) ≡ true
+      → standing s noneYet (t ∷ asked) ≡ none → length asked ≡ K
+      → EndedBecause s noneYet (t ∷ asked) (refusal (growthsSpent (t .x)))
   -- 8
   already : {k : Report} {asked : List Point} → EndedBecause s k asked (refusal alreadyOver)
 
@@ -161,3 +245,12 @@ pointFinite p = finite (p .x) && finite (p .f) && finite (p .g)
 abbrev pub reportFinite : Report → Bool
 reportFinite noneYet = true
 reportFinite (last p) = pointFinite (p .bracket .a) && pointFinite (p .bracket .b) && pointFinite (p .best)
+
+-- ---- of a start that grows: f0 and the start step are f64s, as whatever is handed to `start` is
+
+abbrev pub f64sBy : Way → Float → Float → Type 0
+f64sBy (Bounded e) start f0 = Unit
+f64sBy (Growing K) start f0 = (fits binary64 start ≡ true) × (fits binary64 f0 ≡ true)
+
+abbrev pub F64s : Options → Float → Type 0
+F64s o f0 = f64sBy (o .way) (o .params .start) f0

@@ -28,7 +28,7 @@ use Rattle.hagerzhang_rules.specs.Rules.{update, iteration}
 -- "epsilon = 0, L = 1, theta = 0.5, a = (0,1,-2), b = (4,9,6) unless said." The start has cost 1 and slope -2; B is the
 -- budget.
 abbrev pub options : ℕ → Options
-options B = let q = defaultOptions .params in optionsWith defaultOptions (whole 0) (q .min) (q .max) (q .start) B 100
+options B = optionsWith defaultOptions (whole 0) (defaultOptions .way) (defaultOptions .params .start) B 100
 
 abbrev pub setup : ℕ → Setup
 setup B = record { options = options B; f0 = whole 1; s0 = minus (whole 2); level = whole 1 }
@@ -59,12 +59,12 @@ unfoldable pub updated-with : ℕ → Point → Asks
 updated-with B c = update (setup B) by-number tt ab c becomes
 
 -- the run that is left after some answers, and the steps that it asks up to there and next
-unfoldable pub left : Asks → List Reply → Asks
+unfoldable pub left : {R : Type 0} → Run (Unit {0}) R → List Reply → Run (Unit {0}) R
 left r [] = r
 left (end o) (y ∷ ys) = end o
 left (ask k x then) (y ∷ ys) = left (then (y .0) (y .1)) ys
 
-unfoldable pub steps : Asks → List Reply → List Float
+unfoldable pub steps : {R : Type 0} → Run (Unit {0}) R → List Reply → List Float
 steps (end o) ys = []
 steps (ask k x then) [] = x ∷ []
 steps (ask k x then) (y ∷ ys) = x ∷ steps (then (y .0) (y .1)) ys

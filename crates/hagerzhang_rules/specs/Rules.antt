@@ -1,24 +1,30 @@
--- 01, "Hager-Zhang rules", line by line: each rule once, as a decision; then the flow over them as a run of questions
--- and answers. A point is (x, f, g): step, cost and slope. A bracket is (a, b). L is the setup's level. The types are
--- declared in src/lib.rt, with their cases: what an answer comes to is `To` a bracket, or `On` in U3 with its ends h
--- and k; a further trial is `At` a step, or there is `Nothing`; a verdict `Holds`, or it `Fails`. The marked sums M1 to
--- M12 are said of this text in specs/MarkedSums.antt. specs/Brackets.antt and specs/Iterations.antt have the words for
--- what is proved of it along any answers.
+-- 01, "Hager-Zhang rules", and 02's request 3, "Start bracketing", line by line: each rule once, as a decision; then
+-- the flow over them as a run of questions and answers. A point is (x, f, g): step, cost and slope. A bracket is (a,
+-- b). L is the setup's level. The types are declared in src/lib.rt, with their cases: what an answer comes to is `To` a
+-- bracket, or `On` in U3 with its ends h and k; a trial of a start that grows was `Enough`, with what it came to, or
+-- `TooShort`; a further trial is `At` a step, or there is `Nothing`; a verdict `Holds`, or it `Fails`. The marked sums
+-- M1 to M12 are said of this text in specs/MarkedSums.antt. specs/Brackets.antt and specs/Iterations.antt have the
+-- words for what is proved of it along any answers.
 use Prim.Native.Nat.{ℕ, zero, suc, _+_}
 use mathlib.Core.Bool.{Bool, cond, _&&_, _||_}
 use mathlib.Core.Option.{Option, some, none}
 use lib.Ieee.{Float, binary64, ofBits}
 use lib.Ieee.Scale.{finite}
-use Rattle.floats.specs.Arithmetic.{_⊕_, _⊖_, _⊗_, _⊘_, _<ᶠ_, _≤ᶠ_, _>ᶠ_, _≥ᶠ_, 0ᶠ, 1ᶠ, 2ᶠ}
+use Rattle.floats.specs.Arithmetic.{_⊕_, _⊖_, _⊗_, _⊘_, _<ᶠ_, _≤ᶠ_, _>ᶠ_, _≥ᶠ_, 0ᶠ, 1ᶠ, 2ᶠ, 5ᶠ}
 use Rattle.numbers.specs.Numbers.{absOf}
-use Rattle.runs.specs.Outcomes.{verdictWord, stop, limit, Why, stepNotFinite, budgetSpent, stepNotBetween, unreachable}
+use Rattle.runs.specs.Outcomes.{verdictWord, stop, limit, Why, stepNotFinite, budgetSpent, stepNotBetween}
+use Rattle.runs.specs.Outcomes.{growthsSpent, unreachable}
 use Rattle.runs.specs.Asking.{Run, end, Rest, endWith, keeping, question}
 use Rattle.runs.specs.declared.Verdict.the-variants.{Wolfe, Approximate}
 use Rattle.hagerzhang_rules.specs.declared.Point.{Point}
 use Rattle.hagerzhang_rules.specs.declared.Bracket.{Bracket}
+use Rattle.hagerzhang_rules.specs.declared.Way.{Way}
+use Rattle.hagerzhang_rules.specs.declared.Way.the-variants.{Bounded, Growing}
 use Rattle.hagerzhang_rules.specs.declared.Setup.{Setup}
 use Rattle.hagerzhang_rules.specs.declared.Came.{Came}
 use Rattle.hagerzhang_rules.specs.declared.Came.the-variants.{To, On}
+use Rattle.hagerzhang_rules.specs.declared.Grown.{Grown}
+use Rattle.hagerzhang_rules.specs.declared.Grown.the-variants.{Enough, TooShort}
 use Rattle.hagerzhang_rules.specs.declared.Further.{Further}
 use Rattle.hagerzhang_rules.specs.declared.Further.the-variants.{Nothing, At}
 use Rattle.hagerzhang_rules.specs.declared.Judged.{Judged}
@@ -67,6 +73,24 @@ narrowedOf L h k d =
     cond (d .g ≥ᶠ 0ᶠ) (To (bracket h d))
     (cond (d .f ≤ᶠ L) (On d k)
     (On h (d .x)))
+
+-- ---- 02, request 3: a trial t of a start that grows
+
+-- "the low end is step 0 with f0 and s0"
+abbrev pub zeroOf : Setup → Point
+zeroOf s = point 0ᶠ (s .f0) (s .s0)
+
+-- "If the trial's slope >= 0, the bracket runs from the last earlier trial (or 0) to it. If its slope < 0 and its cost
+-- > L, run U3 from 0 to it. Otherwise multiply the step by 5 and ask again": `low` is the point at 0, `earlier` the
+-- last earlier trial or that
+unfoldable pub grownOf : Float → Point → Point → Point → Grown
+grownOf L low earlier t =
+    cond (t .g ≥ᶠ 0ᶠ) (Enough (To (bracket earlier t)))
+    (cond (t .g <ᶠ 0ᶠ && t .f >ᶠ L) (Enough (On low (t .x)))
+    TooShort)
+
+abbrev pub longerOf : Point → Float
+longerOf t = 5ᶠ ⊗ t .x
 
 -- ---- "Secant(p, q) = (p.x*q.g - q.x*p.g)/(q.g - p.g)."
 abbrev pub secantOf : Point → Point → Float
@@ -186,8 +210,39 @@ module _ {K R : Type 0} (s : Setup) (refuse : Why → R) (kept : K) where
       update w c λ u.
       afterS1 w (c .x) u then
 
--- ---- what is reported: "During the first three answers there is no bracket and no best"; then those of the last
--- finished iteration, or the start
+  -- ---- the start, which comes to c and a bracket: `then` has both
+
+  -- "Start: ask a = min, b = max, c = start step, in that order." Written from its end: min is asked, and `askHigh`
+  -- asks max, and `askStart` the start step
+  unfoldable pub askStart : Bracket → (Point → Bracket → Run K R) → Run K R
+  askStart w then = asking (s .options .params .start) λ c. then c w
+
+  unfoldable pub askHigh : Float → Point → (Point → Bracket → Run K R) → Run K R
+  askHigh max a then = asking max λ b. askStart (bracket a b) then
+
+  -- 02, request 3: a trial was enough, or what comes `otherwise`
+  unfoldable pub enough : Grown → (Bracket → Run K R) → Run K R → Run K R
+  enough (Enough came) then otherwise = U3 (s .options .budget) came then
+  enough TooShort then otherwise = otherwise
+
+  -- after the trial t, while the step may grow n times more. "at most K times"; "11, before 5, if K growths are used
+  -- up"
+  unfoldable pub growth : ℕ → Point → Grown → (Bracket → Run K R) → Run K R
+  growth zero t grown then = enough grown then (end (refuse (growthsSpent (t .x))))
+  growth (suc n) t grown then =
+      enough grown then
+      (trial (longerOf t) λ d.
+      growth n d (grownOf (s .level) (zeroOf s) t d) then)
+
+  -- "the first trial is the start step"; "The best's c is the first trial."
+  unfoldable pub starting : Way → (Point → Bracket → Run K R) → Run K R
+  starting (Bounded e) then = asking (e .min) λ a. askHigh (e .max) a then
+  starting (Growing n) then =
+      asking (s .options .params .start) λ c.
+      growth n c (grownOf (s .level) (zeroOf s) (zeroOf s) c) (then c)
+
+-- ---- what is reported: "During the first three answers there is no bracket and no best"; nor during a start that
+-- grows. Then those of the last finished iteration, or the start
 
 pub record Summary : Type 0 where
   pub bracket : Bracket
@@ -209,8 +264,8 @@ unfoldable pub decided : Report → Float → Rest Report → Judged → Rest Re
 decided kept x go (Holds v) = endWith kept (stop (verdictWord v) x)
 decided kept x go Fails = go
 
--- "This c is always the start step, never a later trial": `start` is the point there, w the bracket, i the number of
--- finished iterations
+-- "This c is always the start step, never a later trial", of either start: `start` is the point there, w the bracket, i
+-- the number of finished iterations
 module _ (s : Setup) where
   abbrev pub reportOf : Bracket → Point → ℕ → Report
   reportOf w start i = last (record { bracket = w; best = bestOf (w .a) (w .b) start; iterations = i })
@@ -231,14 +286,8 @@ module _ (s : Setup) where
       let kept = reportOf w start i in
       verdict w start i (iteration s (keeping kept) kept w λ v. rounds n v start (i + 1))
 
-  -- "Start: ask a = min, b = max, c = start step, in that order." Written from its end: `hagerZhang` asks min and goes
-  -- on with `askHigh`, that asks max and goes on with `askStart`, and that asks the start step and goes on with the
-  -- verdict on (a, b). Nothing is reported yet.
-  unfoldable pub askStart : Bracket → Rest Report
-  askStart w = asking s (keeping noneYet) noneYet (s .options .params .start) λ c. rounds (s .options .limit) w c 0
-
-  unfoldable pub askHigh : Point → Rest Report
-  askHigh a = asking s (keeping noneYet) noneYet (s .options .params .max) λ b. askStart (bracket a b)
-
+  -- the whole search: the start, while nothing is reported yet; "Then best, then verdict", and the iterations
   unfoldable pub hagerZhang : Rest Report
-  hagerZhang = asking s (keeping noneYet) noneYet (s .options .params .min) λ a. askHigh a
+  hagerZhang =
+      starting s (keeping noneYet) noneYet (s .options .way) λ c w.
+      rounds (s .options .limit) w c 0

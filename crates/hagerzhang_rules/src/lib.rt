@@ -26,14 +26,26 @@ pub struct Params {
     pub gamma: f64,
     // checked and stored; no rule reads it
     pub eta: f64,
-    pub min: f64,
-    pub max: f64,
     // the start step c
     pub start: f64,
 }
 
+pub struct Bounds {
+    pub min: f64,
+    pub max: f64,
+}
+
+// The way of starting.
+pub enum Way {
+    // 01: three answers, at min, max and the start step
+    Bounded(Bounds),
+    // 02, request 3: the start step grows until it brackets, so many times at most. There are no bounds
+    Growing(u32),
+}
+
 pub struct Options {
     pub params: Params,
+    pub way: Way,
     // how many answers one U3 run may have
     pub budget: u32,
     // how many iterations may be finished
@@ -54,6 +66,12 @@ pub struct Setup {
 pub enum Came {
     To(Bracket),
     On(Point, f64),
+}
+
+// What the answer at a trial of a growing start comes to: a bracket or U3, or the step is too short.
+pub enum Grown {
+    Enough(Came),
+    TooShort,
 }
 
 // A further trial of an iteration, if there is one.

@@ -17,6 +17,8 @@ use Rattle.refusals.specs.declared.Refusal.the-variants.{
   BudgetSpent,
   StepNotBetween,
   AlreadyOver,
+  NotDownhill,
+  GrowthsSpent,
 }
 use Rattle.refusals.proofs.Determined.{withNumber, number-back}
 use Rattle.curves.specs.declared.Curve.{Curve}
@@ -54,6 +56,8 @@ not-nine StepNotFinite a b = refl
 not-nine BudgetSpent a b = refl
 not-nine StepNotBetween a b = refl
 not-nine AlreadyOver a b = refl
+not-nine NotDownhill a b = refl
+not-nine GrowthsSpent a b = refl
 
 opens-back : (r : Opened) → opens (openedTold r) ≡ r
 unfolding opens

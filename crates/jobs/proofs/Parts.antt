@@ -9,7 +9,6 @@ use borrow.Author.Tests.{eqb-true}
 use lib.Dec.{eqb}
 use lib.ListN.{length, take, drop, length-drop}
 use lib.Seq.{drop-drop, take-nil, drop-nil}
-use lib.Ieee.{Float}
 use Rattle.floats.proofs.Branches.{and-first, and-second}
 use Rattle.wire.specs.Wire.{pairOf, floatOf}
 use Rattle.fields.specs.declared.Heading.{Heading}
@@ -68,11 +67,9 @@ module _ (s : List ℕ) (at tag n : ℕ) where
         rw (m, d, is) (sym (drop-take skip (n - skip) body) ∙ ap (λ (i : ℕ). drop skip (take i body)) (sym e))
 
     -- the float that starts some bytes into the body is what the part of the job says
-    pub float-there : (skip : ℕ) (other : Float) → skip ≤ n
-        → floatOf (take (at + 3 + n - (at + 3 + skip)) (drop (at + 3 + skip) s))
-        ≡ said (floatIn skip) (found tag n (drop at s)) other
-    unfolding found
-    float-there skip other l = rw h (ap floatOf (body-part skip l))
+    pub float-there : (skip : ℕ) → skip ≤ n
+        → floatOf (take (at + 3 + n - (at + 3 + skip)) (drop (at + 3 + skip) s)) ≡ floatIn skip (bodyOf (drop at s))
+    float-there skip l = ap floatOf (body-part skip l)
 
     -- so is the number
     pub count-there : (other : ℕ)
@@ -81,6 +78,12 @@ module _ (s : List ℕ) (at tag n : ℕ) where
     count-there other =
         let z : at + 3 + 0 ≡ at + 3 = omega arith in
         rw h (ap pairOf (rw z at (body-part 0 (omega arith))))
+
+    -- a field that is there says what its body says
+    pub present : {A : Type 0} (says : List ℕ → A) (other : A)
+        → says (bodyOf (drop at s)) ≡ said says (found tag n (drop at s)) other
+    unfolding found
+    present says other = rw h
 
   -- a field that is absent says nothing
   pub absent : {A : Type 0} (says : List ℕ → A) (other : A) → stands tag n (drop at s) ≡ false

@@ -7,13 +7,13 @@ use Prim.Native.Nat.{ℕ}
 use borrow.Author.Tests.{not-false}
 use Rattle.refusals.specs.Results.{Result, value, refused, Row, refuse_else_}
 use Rattle.refusals.proofs.Refusals.{Passed, and, all, passed, refused-not-value, alike}
-use Rattle.hagerzhang_rules.specs.Parameters.{paramsFinite, rangeRows}
+use Rattle.hagerzhang_rules.specs.Parameters.{optionsFinite, rangeRows}
 use Rattle.curves.specs.declared.Curve.{Curve}
 use Rattle.curves.specs.Curves.{hasNumber, numberedAt, curveRows, numberedOf}
 use Rattle.hagerzhang.specs.declared.state.Turn.{Turn}
 use Rattle.hagerzhang.specs.Machine.{freshOf}
 use Rattle.jobs.specs.declared.Job.{Job}
-use Rattle.jobs.specs.Opening.{curveOf, f0Of, setupFor, begunBy, overCurve}
+use Rattle.jobs.specs.Opening.{curveOf, f0Of, s0Of, setupFor, begunBy, overCurve}
 use Rattle.jobs.proofs.AtZero.{f0-finite, s0-finite}
 
 -- what a start comes to, with the curve beside it
@@ -35,10 +35,10 @@ has-number : (n : ℕ) → Passed (curveRows n) → hasNumber n ≡ true
 has-number n (and three all) = not-false _ three
 
 module _ (j : Job) where
-  pub not-finite : paramsFinite (j .options .params) ≡ false → refused 2 ≡ begunBy (value j)
+  pub not-finite : optionsFinite (j .options) ≡ false → refused 2 ≡ begunBy (value j)
   not-finite h = rw h
 
-  module _ (fine : paramsFinite (j .options .params) ≡ true) where
+  module _ (fine : optionsFinite (j .options) ≡ true) where
     over-curve : hasNumber (j .curve) ≡ true → overCurve (curveOf j) (j .options) ≡ begunBy (value j)
     over-curve h = rw (fine, h, f0-finite j h, s0-finite j h)
 
@@ -50,6 +50,6 @@ module _ (j : Job) where
 
     pub unknown-curve : (n : ℕ) → refused n ≡ numberedOf (j .curve) → refused n ≡ begunBy (value j)
     unknown-curve n e =
-        let rows = rangeRows (j .options) (f0Of j) in
+        let rows = rangeRows (j .options) (f0Of j) (s0Of j) in
         let begun : Curve × Turn = (curveOf j, freshOf (setupFor j)) in
         rw fine (one-row n 3 (not (hasNumber (j .curve))) (numberedAt (j .curve)) rows begun e)

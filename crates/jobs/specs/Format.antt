@@ -11,8 +11,10 @@ use lib.Ieee.{Float}
 use Rattle.refusals.specs.Results.{Result, value, refused}
 use Rattle.wire.specs.Wire.{byteAt, pairOf, floatOf}
 use Rattle.fields.specs.Fields.{Field, written}
+use Rattle.hagerzhang_rules.specs.declared.Way.{Way}
+use Rattle.hagerzhang_rules.specs.declared.Way.the-variants.{Bounded}
 use Rattle.hagerzhang_rules.specs.declared.Options.{Options}
-use Rattle.hagerzhang_rules.specs.Parameters.{defaultOptions, optionsWith}
+use Rattle.hagerzhang_rules.specs.Parameters.{bounds, defaultOptions, optionsWith}
 use Rattle.jobs.specs.declared.Job.{Job}
 
 -- "Tags: 1 curve (1 byte, required), 2 bounds (16), 3 start step (8), 4 epsilon (8), 5 B (2), 6 N (2)": how long the
@@ -48,13 +50,17 @@ said says (some body) other = says body
 abbrev pub floatIn : ℕ → List ℕ → Float
 floatIn skip body = floatOf (drop skip body)
 
+-- the way of starting that the body of tag 2 says: 01's, with these bounds
+abbrev pub wayIn : List ℕ → Way
+wayIn body = Bounded (bounds (floatOf body) (floatIn 8 body))
+
 -- what the bodies of the tags 2 to 6 say; what is absent is as in the defaults d
 unfoldable pub optionsOf : Options → Option (List ℕ) → Option (List ℕ) → Option (List ℕ) → Option (List ℕ)
     → Option (List ℕ) → Options
-optionsOf d bounds start epsilon budget limit =
+optionsOf d ends start epsilon budget limit =
     let q = d .params in
-    optionsWith d (said floatOf epsilon (q .epsilon)) (said floatOf bounds (q .min)) (said (floatIn 8) bounds (q .max))
-    (said floatOf start (q .start)) (said pairOf budget (d .budget)) (said pairOf limit (d .limit))
+    optionsWith d (said floatOf epsilon (q .epsilon)) (said wayIn ends (d .way)) (said floatOf start (q .start))
+    (said pairOf budget (d .budget)) (said pairOf limit (d .limit))
 
 -- with tag 1: "missing tag 1 is refusal 9"
 unfoldable pub decoded : Option (List ℕ) → Options → Result Job

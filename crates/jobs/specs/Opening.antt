@@ -9,7 +9,7 @@ use Rattle.refusals.specs.Results.{Result, value, refused, Row, refuse_else_}
 use Rattle.refusals.specs.Refusals.{numberOf}
 use Rattle.hagerzhang_rules.specs.declared.Options.{Options}
 use Rattle.hagerzhang_rules.specs.declared.Setup.{Setup}
-use Rattle.hagerzhang_rules.specs.Parameters.{paramsFinite, rangeRows, startRows, setupOf}
+use Rattle.hagerzhang_rules.specs.Parameters.{optionsFinite, rangeRows, startRows, setupOf}
 use Rattle.curves.specs.declared.Curve.{Curve}
 use Rattle.curves.specs.Curves.{hasNumber, numberedAt, valueOf, slopeOf}
 use Rattle.hagerzhang.specs.declared.state.Turn.{Turn}
@@ -33,11 +33,13 @@ abbrev pub setupFor : Job → Setup
 setupFor j = setupOf (j .options) (f0Of j) (s0Of j)
 
 -- 2: "a supplied number is NaN or infinite"; 3: "a parameter, B, N or curve number is outside its range", of which the
--- curve's number is the job's own; the other ranges, and then 4, are the start's. f0 and s0 are not supplied, and
--- finite on every curve (proofs/AtZero.antt)
+-- curve's number is the job's own; the other ranges, and then 10 and 4, are the start's. 10 is of a start that grows,
+-- and no job has one. f0 and s0 are not supplied, and finite on every curve (proofs/AtZero.antt)
 abbrev pub jobRows : Job → List Row
 jobRows j =
-    (2, not (paramsFinite (j .options .params))) ∷ (3, not (hasNumber (j .curve))) ∷ rangeRows (j .options) (f0Of j)
+    (2, not (optionsFinite (j .options)))
+    ∷ (3, not (hasNumber (j .curve)))
+    ∷ rangeRows (j .options) (f0Of j) (s0Of j)
 
 -- 9, "the job is malformed", comes before all these. The search that has asked its first step, a = min, is `freshOf`
 abbrev pub begunBy : Result Job → Result (Curve × Turn)

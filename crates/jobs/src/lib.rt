@@ -7,14 +7,18 @@ use fields::Heading;
 use hagerzhang::Started;
 use hagerzhang::Turn;
 use hagerzhang_decisions::parameters;
+use hagerzhang_rules::Bounds;
 use hagerzhang_rules::Options;
 use hagerzhang_rules::Params;
+use hagerzhang_rules::Way;
 use refusals::Refusal;
 ghost use mathlib.Core.Path.{_≡_};
+ghost use mathlib.Core.Bool.{true};
 ghost use Prim.Native.Nat.{_≤_};
 ghost use lib.ListN.{length, drop};
-ghost use Rattle.wire.specs.Wire.{pairOf};
-ghost use Rattle.jobs.specs.Format.{floatIn, said};
+ghost use Rattle.wire.specs.Wire.{pairOf, floatOf};
+ghost use Rattle.fields.specs.Fields.{bodyOf};
+ghost use Rattle.jobs.specs.Format.{floatIn, wayIn, said};
 ghost use Rattle.refusals.specs.Results.{value};
 ghost use Rattle.jobs.specs.Opening.{overCurve, begunBy, openedTold, BeginSaid};
 ghost use Rattle.jobs.specs.Reader.{stands, found, behind, optionsAt, ReadSaid};
@@ -58,17 +62,38 @@ fn behind(job: &[u8], p: Place) -> usize
     p.0
 }
 
-// The float that starts `skip` bytes into the field's body, the part of the job behind tag and length; or the other
-// where the field is absent.
-fn number(job: &[u8], p: Place, skip: usize, other: f64) -> f64
-    requires { ⌜ skip ≤ p .2 ⌝ }
-    ensures { λ r. ⌜ r ≡ said (floatIn skip) (found (p .1) (p .2) (drop (p .0) (now (job .entry)))) other ⌝ }
+// The float that starts `skip` bytes into the body of a field that stands there, the part of the job behind tag and
+// length.
+fn float(job: &[u8], p: Place, skip: usize) -> f64
+    requires { ⌜ (skip ≤ p .2) × (stands (p .1) (p .2) (drop (p .0) (now job)) ≡ true) ⌝ }
+    ensures { λ r. ⌜ r ≡ floatIn skip (bodyOf (drop (p .0) (now (job .entry)))) ⌝ }
+{
+    let body = p.0 + 3;
+    let a = body + skip;
+    let b = body + p.2;
+    wire::float(&job[a..b])
+}
+
+// The float that the field's body is; or the other where the field is absent.
+fn number(job: &[u8], p: Place, other: f64) -> f64
+    ensures { λ r. ⌜ r ≡ said floatOf (found (p .1) (p .2) (drop (p .0) (now (job .entry)))) other ⌝ }
 {
     if stands(job, p) {
-        let body = p.0 + 3;
-        let a = body + skip;
-        let b = body + p.2;
-        return wire::float(&job[a..b]);
+        return float(job, p, 0);
+    }
+    other
+}
+
+// The way with the bounds of field 2, where that is at this place; or the other where it is absent.
+fn way(job: &[u8], at: usize, other: Way) -> Way
+    ensures { λ r. ⌜ r ≡ said wayIn (found 2 16 (drop at (now (job .entry)))) other ⌝ }
+{
+    let p = Place(at, 2, 16);
+    if stands(job, p) {
+        return Way::Bounded(Bounds {
+            min: float(job, p, 0),
+            max: float(job, p, 8),
+        });
     }
     other
 }
@@ -98,10 +123,10 @@ fn options(
 {
     let d = parameters::defaults();
     let p = d.params;
-    let min = number(job, Place(bounds, 2, 16), 0, p.min);
-    let max = number(job, Place(bounds, 2, 16), 8, p.max);
-    let first = number(job, Place(start, 3, 8), 0, p.start);
-    let factor = number(job, Place(epsilon, 4, 8), 0, p.epsilon);
+    let three_answers = d.way;
+    let begins = way(job, bounds, three_answers);
+    let first = number(job, Place(start, 3, 8), p.start);
+    let factor = number(job, Place(epsilon, 4, 8), p.epsilon);
     let most = count(job, Place(budget, 5, 2), d.budget);
     let last = count(job, Place(limit, 6, 2), d.limit);
     Options {
@@ -112,10 +137,9 @@ fn options(
             theta: p.theta,
             gamma: p.gamma,
             eta: p.eta,
-            min,
-            max,
             start: first,
         },
+        way: begins,
         budget: most,
         limit: last,
     }
@@ -169,7 +193,7 @@ fn begun_by(j: Job) -> Opened
     ensures { λ r. ⌜ openedTold r ≡ begunBy (value j) ⌝ }
 {
     let o = j.options;
-    if !parameters::params_finite(o.params) {
+    if !parameters::options_finite(o) {
         return Opened::NoSearch(Refusal::SuppliedNotFinite);
     }
     match curves::numbered(j.curve) {

@@ -23,7 +23,7 @@ lastText p e =
     ++ bytes "COUNTS"
     ++ countsText e (p .iterations)
 
--- after e evaluations; `none` "before the three start answers are in"
+-- after e evaluations; `none` "while the start lasts"
 abbrev pub closingText : Report → ℕ → List ℕ
 closingText noneYet e = noBracketText e 0
 closingText (last p) e = lastText p e

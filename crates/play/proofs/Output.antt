@@ -10,19 +10,20 @@ use lib.ListN.{length}
 use lib.Ieee.{Float}
 use Rattle.floats.proofs.Order.{finite→real}
 use Rattle.refusals.specs.Results.{Result, value, refused, Row, refuse_else_}
-use Rattle.runs.specs.Asking.{Rest, ask, end, shown, onceTold}
+use Rattle.runs.specs.Asking.{Rest, ask, end}
 use Rattle.runs.proofs.Ends.{EndsWithin, at-end, at-ask}
-use Rattle.refusals.proofs.Refusals.{Passed, value-given, alike}
+use Rattle.refusals.proofs.Refusals.{value-given, alike}
 use Rattle.hagerzhang_rules.specs.declared.Options.{Options}
 use Rattle.hagerzhang_rules.specs.declared.Setup.{Setup}
-use Rattle.hagerzhang_rules.specs.Parameters.{setupOf, startRows}
+use Rattle.hagerzhang_rules.specs.Parameters.{setupOf}
 use Rattle.hagerzhang_rules.specs.Rules.{answerFinite, Report, hagerZhang}
-use Rattle.hagerzhang_rules.proofs.Ranges.{level-finite, limit-fits, most-answers}
-use Rattle.hagerzhang_rules.proofs.Bounds.{search-within}
+use Rattle.hagerzhang_rules.specs.Iterations.{mostInStart, mostInIteration, mostEver}
+use Rattle.hagerzhang_rules.proofs.Ranges.{Accepted, ever, level-finite, limit-fits, most-answers}
+use Rattle.hagerzhang_rules.proofs.EndsInTime.{search-within}
 use Rattle.curves.specs.declared.Curve.{Curve}
 use Rattle.hagerzhang.specs.declared.state.Turn.{Turn}
 use Rattle.hagerzhang.specs.Machine.{freshOf}
-use Rattle.hagerzhang.proofs.Bridge.{starts-whole}
+use Rattle.hagerzhang.proofs.Bridge.{begins-whole, first-asked}
 use Rattle.lines.specs.Lines.{refusedLine}
 use Rattle.jobs.specs.declared.Job.{Job}
 use Rattle.jobs.specs.Reader.{jobOf}
@@ -35,14 +36,14 @@ use Rattle.play.specs.Output.{searchText, orRefused, jobText, outputOf}
 use Rattle.play.proofs.ByRules.{Fits, Stands, Matches, at-step, over-in-time, chunks-told}
 
 -- ---- a start that no row refuses: where its search stands first
-module _ (o : Options) (f0 s0 : Float) (ok : Passed (startRows o f0 s0)) where
+module _ (o : Options) (f0 s0 : Float) (ok : Accepted o f0 s0) where
   abbrev s : Setup
   s = setupOf o f0 s0
 
   most : ℕ
-  most = 3 + o .limit * (3 + 3 * o .budget)
+  most = mostInStart o + o .limit * mostInIteration o
 
-  at-most : most ≤ 30030003
+  at-most : most ≤ mostEver (o .way)
   unfolding most
   at-most = most-answers o f0 s0 ok
 
@@ -59,11 +60,11 @@ module _ (o : Options) (f0 s0 : Float) (ok : Passed (startRows o f0 s0)) where
   stands-first : (c : Curve) → Stands s start-fits c 0 most (freshOf s) (hagerZhang s)
   stands-first c = record {
     same-setup = refl;
-    tells = unfold shown hagerZhang in refl;
-    leaves = unfold onceTold hagerZhang in starts-whole s;
+    tells = first-asked s;
+    leaves = begins-whole s;
     counts = refl;
     within = ends-in-time;
-    few = let m = at-most in omega arith;
+    few = let m = at-most in let n = ever (o .way) in omega arith;
   }
 
 -- ---- a search that ends within m answers has at most m + 1 outcomes to tell
@@ -100,6 +101,7 @@ module _ (bytes : List ℕ) (c : Curve) (t : Turn) (b : Begins bytes c t) where
       let ok = b .accepted in
       let h = tells-few c 0 _ (hagerZhang (setupFor j)) (ends-in-time o (f0Of j) (s0Of j) ok) in
       let m = at-most o (f0Of j) (s0Of j) ok in
+      let n : mostEver (o .way) ≡ 30030003 = ap mostEver (b .bounded .1) in
       omega arith
 
 module _ (bytes : List ℕ) (c : Curve) (t : Turn) (h : beginOf bytes ≡ value (c, t)) where

@@ -12,9 +12,11 @@ use Rattle.runs.specs.Outcomes.{wolfe, stop, Told, asks, ends}
 use Rattle.runs.specs.Asking.{Rest, keeping, question}
 use Rattle.refusals.proofs.Refusals.{Passed, and, all, value-given}
 use Rattle.hagerzhang_rules.specs.declared.Point.{Point}
-use Rattle.hagerzhang_rules.specs.Parameters.{defaultOptions, optionsWith}
+use Rattle.hagerzhang_rules.specs.declared.Bracket.{Bracket}
+use Rattle.hagerzhang_rules.specs.declared.Way.the-variants.{Bounded}
+use Rattle.hagerzhang_rules.specs.Parameters.{bounds, defaultOptions, optionsWith}
 use Rattle.hagerzhang_rules.specs.Rules.{point, bracket, answerFinite, Report, noneYet, iterationsIn, bestOver, judgeOf}
-use Rattle.hagerzhang_rules.specs.Rules.{decided, verdict, rounds, askStart, askHigh, hagerZhang}
+use Rattle.hagerzhang_rules.specs.Rules.{decided, verdict, rounds, askStart, askHigh, starting, hagerZhang}
 use Rattle.curves.specs.declared.Curve.{Curve}
 use Rattle.curves.specs.Curves.{table, valueOf, slopeOf}
 use Rattle.text.specs.Text.{bytes}
@@ -38,12 +40,12 @@ job =
 abbrev curve : Field
 curve = record { tag = 1; body = 1 ∷ [] }
 
-abbrev bounds : Field
-bounds = record { tag = 2; body = 0 ∷ 0 ∷ 0 ∷ 0 ∷ 0 ∷ 0 ∷ 0 ∷ 0 ∷ 64 ∷ 16 ∷ 0 ∷ 0 ∷ 0 ∷ 0 ∷ 0 ∷ 0 ∷ [] }
+abbrev bounds-field : Field
+bounds-field = record { tag = 2; body = 0 ∷ 0 ∷ 0 ∷ 0 ∷ 0 ∷ 0 ∷ 0 ∷ 0 ∷ 64 ∷ 16 ∷ 0 ∷ 0 ∷ 0 ∷ 0 ∷ 0 ∷ 0 ∷ [] }
 
-holds : WellFormed 0 (curve ∷ bounds ∷ []) job
+holds : WellFormed 0 (curve ∷ bounds-field ∷ []) job
 unfolding sizeOf
-holds = field {t = 0} {f = curve} (omega arith) refl (field {t = 1} {f = bounds} (omega arith) refl nothing)
+holds = field {t = 0} {f = curve} (omega arith) refl (field {t = 1} {f = bounds-field} (omega arith) refl nothing)
 
 abbrev zero : Float
 zero = ofBits binary64 0
@@ -58,20 +60,21 @@ abbrev j : Job
 j = let q = defaultOptions .params in record {
   curve = 1;
   options =
-      optionsWith defaultOptions (q .epsilon) zero four (q .start) (defaultOptions .budget) (defaultOptions .limit);
+      optionsWith defaultOptions (q .epsilon) (Bounded (bounds zero four)) (q .start) (defaultOptions .budget)
+      (defaultOptions .limit);
 }
 
-says : meansOf (curve ∷ bounds ∷ []) ≡ value j
+says : meansOf (curve ∷ bounds-field ∷ []) ≡ value j
 unfolding bodyUnder optionsOf decoded
 says = refl
 
 is-job : jobOf job ≡ value j
-is-job = job-read job (curve ∷ bounds ∷ []) j holds says
+is-job = job-read job (curve ∷ bounds-field ∷ []) j holds says
 
 -- ---- no row refuses it
 no-row : Passed (jobRows j)
 unfolding table add mul ofInt ofBits le lt
-no-row = and refl (and refl (and refl (and refl all)))
+no-row = and refl (and refl (and refl (and refl (and refl all))))
 
 -- ---- what its search tells. Of an answer: cost and slope of the curve there, and that they are finite
 asked : (c : Curve) (e : ℕ) (k : Report) (x : Float) (then : Float → Float → Rest Report) (f g : Float)
@@ -106,21 +109,29 @@ over = curveOf j
 abbrev says-at : Told → ℕ → Said
 says-at t e = record { told = t; evaluations = e; iterations = 0 }
 
-at-low : telling over 0 (hagerZhang (setupFor j)) ≡ says-at (asks zero) 0 ∷ telling over 1 (askHigh (setupFor j) low)
-unfolding hagerZhang table add mul ofInt ofBits
+-- behind the start
+abbrev goes-on : Point → Bracket → Rest Report
+goes-on c w = rounds (setupFor j) 100 w c 0
+
+abbrev from-high : Rest Report
+from-high = askHigh (setupFor j) (keeping noneYet) noneYet four low goes-on
+
+abbrev from-start : Rest Report
+from-start = askStart (setupFor j) (keeping noneYet) noneYet (bracket low high) goes-on
+
+at-low : telling over 0 (hagerZhang (setupFor j)) ≡ says-at (asks zero) 0 ∷ telling over 1 from-high
+unfolding hagerZhang starting table add mul ofInt ofBits
 at-low = asked over 0 noneYet zero _ one -two refl refl refl
 
-at-high : telling over 1 (askHigh (setupFor j) low)
-    ≡ says-at (asks four) 1 ∷ telling over 2 (askStart (setupFor j) (bracket low high))
+at-high : telling over 1 from-high ≡ says-at (asks four) 1 ∷ telling over 2 from-start
 unfolding askHigh table add mul ofInt ofBits
 at-high = asked over 1 noneYet four _ nine six refl refl refl
 
-at-start : telling over 2 (askStart (setupFor j) (bracket low high))
-    ≡ says-at (asks one) 2 ∷ telling over 3 (rounds (setupFor j) 100 (bracket low high) start 0)
+at-start : telling over 2 from-start ≡ says-at (asks one) 2 ∷ telling over 3 (goes-on start (bracket low high))
 unfolding askStart table add mul ofInt ofBits
 at-start = asked over 2 noneYet one _ zero zero refl refl refl
 
-at-end : telling over 3 (rounds (setupFor j) 100 (bracket low high) start 0) ≡ says-at (ends (stop wolfe one)) 3 ∷ []
+at-end : telling over 3 (goes-on start (bracket low high)) ≡ says-at (ends (stop wolfe one)) 3 ∷ []
 unfolding telling rounds verdict decided judgeOf bestOver table add sub mul neg le lt ofInt ofBits
 at-end = refl
 

@@ -1,5 +1,5 @@
--- 01's table "Numbers in, numbers refused": its numbers, its order, and what it means to be refused by it. The rows,
--- with their "Given exactly when", are filled in by the crates that stand on this one.
+-- 01's table "Numbers in, numbers refused", with what 02 adds: its numbers, its order, and what it means to be refused
+-- by it. The rows, with their "Given exactly when", are filled in by the crates that stand on this one.
 use Prim.Native.Nat.{ℕ}
 use mathlib.Core.Path.{_≡_}
 use mathlib.Core.Bool.{Bool, true, false, cond}
@@ -16,6 +16,8 @@ use Rattle.refusals.specs.declared.Refusal.the-variants.{
   BudgetSpent,
   StepNotBetween,
   AlreadyOver,
+  NotDownhill,
+  GrowthsSpent,
 }
 
 -- the number of each refusal that a search can give
@@ -27,10 +29,13 @@ numberOf StepNotFinite = 5
 numberOf BudgetSpent = 6
 numberOf StepNotBetween = 7
 numberOf AlreadyOver = 8
+numberOf NotDownhill = 10
+numberOf GrowthsSpent = 11
 
--- "8 before all; then 1, 9, 2, 3, 4 in that order"; "6 comes before 5 and 7; 5 comes before 7"
+-- "8 before all; then 1, 9, 2, 3, 4 in that order"; "6 comes before 5 and 7; 5 comes before 7". 02, request 3: "10,
+-- after 3 and before 4"; "11, before 5". 6 and 11 never meet
 abbrev pub order : List ℕ
-order = 8 ∷ 1 ∷ 9 ∷ 2 ∷ 3 ∷ 4 ∷ 6 ∷ 5 ∷ 7 ∷ []
+order = 8 ∷ 1 ∷ 9 ∷ 2 ∷ 3 ∷ 10 ∷ 4 ∷ 6 ∷ 11 ∷ 5 ∷ 7 ∷ []
 
 -- what the first row tells whose condition holds
 unfoldable pub given : {K : Type 0} → List (RowBy K) → Option K
@@ -44,7 +49,7 @@ inOrder [] (m ∷ ms) = false
 inOrder (n ∷ numbers) (m ∷ ms) = cond (eqb n m) (inOrder (n ∷ numbers) ms) (inOrder numbers (m ∷ ms))
 
 -- refused by a table, or not at all: what is told, if anything, is what the first row that applies tells, and the rows
--- come in 01's order, by the numbers in what they tell
+-- come in this order, by the numbers in what they tell
 pub record TableBy {K : Type 0} (numberIn : K → ℕ) (told : Option K) (rows : List (RowBy K)) : Type 0 where
   pub exactly : told ≡ given rows
   pub ordered : inOrder order (map (λ r. numberIn (r .0)) rows) ≡ true

@@ -3,7 +3,7 @@
 ghost use mathlib.Core.Path.{_≡_};
 ghost use Rattle.refusals.specs.Refusals.{numberOf};
 
-// 01's refusals that a search can give, in the order of their numbers.
+// 01's refusals that a search can give, and from 10 on 02's, in the order of their numbers.
 pub enum Refusal {
     // 2: a number that was supplied is a NaN or an infinity
     SuppliedNotFinite,
@@ -19,10 +19,14 @@ pub enum Refusal {
     StepNotBetween,
     // 8: the search is already over
     AlreadyOver,
+    // 10: the slope at step 0 is not below 0, for a start that grows
+    NotDownhill,
+    // 11: the start step has grown as often as it may, and has not come to a bracket
+    GrowthsSpent,
 }
 
 impl Refusal {
-    // The number by which 01 knows the refusal.
+    // The number by which 01 or 02 knows the refusal.
     pub fn number(self) -> u32
         ensures { λ r. ⌜ r ≡ numberOf self ⌝ }
     {
@@ -34,6 +38,8 @@ impl Refusal {
             Refusal::BudgetSpent => 6,
             Refusal::StepNotBetween => 7,
             Refusal::AlreadyOver => 8,
+            Refusal::NotDownhill => 10,
+            Refusal::GrowthsSpent => 11,
         }
     }
 }

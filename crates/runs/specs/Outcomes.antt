@@ -33,16 +33,19 @@ pub data Why : Type 0 where
   budgetSpent : Float → Float → Why
   -- U3's ends, and its next step
   stepNotBetween : Float → Float → Float → Why
+  -- a start that grows has grown as often as it may, and this was its last step
+  growthsSpent : Float → Why
   alreadyOver : Why
   -- the Rust's error "unreachable point", which has no number in 01: "cannot occur here. This is proved."
   unreachable : Why
 
--- its number in 01's table "Numbers in, numbers refused"
+-- its number in 01's table "Numbers in, numbers refused", or in 02
 abbrev pub numberFor : Why → ℕ
 numberFor (answerNotFinite f g) = 2
 numberFor (stepNotFinite x) = 5
 numberFor (budgetSpent h k) = 6
 numberFor (stepNotBetween h k x) = 7
+numberFor (growthsSpent x) = 11
 numberFor alreadyOver = 8
 numberFor unreachable = 0
 

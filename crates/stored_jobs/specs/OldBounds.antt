@@ -8,15 +8,16 @@ use lib.Ieee.{binary64, ofBits}
 use Rattle.refusals.specs.Results.{Result, value, refused}
 use Rattle.fields.specs.Fields.{Field, written}
 use Rattle.hagerzhang_rules.specs.declared.Options.{Options}
-use Rattle.hagerzhang_rules.specs.Parameters.{defaultOptions, optionsWith}
+use Rattle.hagerzhang_rules.specs.declared.Way.the-variants.{Bounded}
+use Rattle.hagerzhang_rules.specs.Parameters.{bounds, defaultOptions, optionsWith}
 use Rattle.jobs.specs.declared.Job.{Job}
 
 -- the defaults as 01 has them: "Bounds 2^-52 and 1e5", and the others as they still are
 abbrev pub oldDefaults : Options
 oldDefaults =
     let q = defaultOptions .params in
-    optionsWith defaultOptions (q .epsilon) (ofBits binary64 0x3cb0_0000_0000_0000)
-    (ofBits binary64 0x40f8_6a00_0000_0000) (q .start) (defaultOptions .budget) (defaultOptions .limit)
+    let way = Bounded (bounds (ofBits binary64 0x3cb0_0000_0000_0000) (ofBits binary64 0x40f8_6a00_0000_0000)) in
+    optionsWith defaultOptions (q .epsilon) way (q .start) (defaultOptions .budget) (defaultOptions .limit)
 
 -- "a field 2 written with the old bounds": the eight bytes of 2^-52, then those of 1e5
 abbrev pub oldBounds : Field

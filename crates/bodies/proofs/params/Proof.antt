@@ -8,20 +8,17 @@ returns : tie.Need-returns
 unfolding paramsOf
 returns c =
     rw (
-      c .float9 .ensures,
-      c .before .float8 .ensures,
-      c .before .before .float7 .ensures,
-      c .before .before .before .float6 .ensures,
-      c .before .before .before .before .float5 .ensures,
-      c .before .before .before .before .before .float4 .ensures,
-      c .before .before .before .before .before .before .float3 .ensures,
-      c .before .before .before .before .before .before .before .float2 .ensures,
-      c .before .before .before .before .before .before .before .before .float .ensures,
+      c .float7 .ensures,
+      c .before .float6 .ensures,
+      c .before .before .float5 .ensures,
+      c .before .before .before .float4 .ensures,
+      c .before .before .before .before .float3 .ensures,
+      c .before .before .before .before .before .float2 .ensures,
+      c .before .before .before .before .before .before .float .ensures,
     )
 
 pub params-spec : {M : Type 1} → statement M
 params-spec =
     tie.close
     (tie.spec (λ c κs. search needs) (λ c κs. search needs) (λ c κs. search needs) (λ c κs. search needs)
-    (λ c κs. search needs) (λ c κs. search needs) (λ c κs. search needs) (λ c κs. search needs) (λ c κs. search needs)
-    returns)
+    (λ c κs. search needs) (λ c κs. search needs) (λ c κs. search needs) returns)

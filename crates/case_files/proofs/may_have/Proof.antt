@@ -12,4 +12,5 @@ may-have-spec =
     tie.close
     (tie.spec
     (λ c. search (tests, eq-eqb, ne-eqb)) (λ c. search (tests, eq-eqb, ne-eqb)) (λ c. search (tests, eq-eqb, ne-eqb))
-    (λ c. search (tests, eq-eqb, ne-eqb)) (λ c. search (tests, eq-eqb, ne-eqb)) (λ c. search (tests, eq-eqb, ne-eqb)))
+    (λ c. search (tests, eq-eqb, ne-eqb)) (λ c. search (tests, eq-eqb, ne-eqb)) (λ c. search (tests, eq-eqb, ne-eqb))
+    (λ c. search (tests, eq-eqb, ne-eqb) depth 7))

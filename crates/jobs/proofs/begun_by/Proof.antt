@@ -3,7 +3,7 @@ use mathlib.Core.Path.{_≡_, _∙_, sym, ap}
 use mathlib.Core.Bool.{true}
 use borrow.Author.Needs.{needs}
 use borrow.Author.Tests.{not-true, not-false}
-use Rattle.hagerzhang_rules.specs.Parameters.{paramsFinite}
+use Rattle.hagerzhang_rules.specs.Parameters.{optionsFinite}
 use Rattle.curves.specs.Told.{curveTold}
 use Rattle.jobs.proofs.Refusals.{not-finite, found-curve, unknown-curve}
 use Rattle.jobs.proofs.begun_by.Statement.{statement}
@@ -12,10 +12,10 @@ use Rattle.jobs.proofs.begun_by.Tie as tie
 returns : tie.Need-returns
 returns c =
     let j = c .before .before .before .args .j in
-    not-finite j (sym (c .before .params-finite .ensures) ∙ not-true _ (c .if1 .taken))
+    not-finite j (sym (c .before .options-finite .ensures) ∙ not-true _ (c .if1 .taken))
 
-fine : (c : tie.Else1) → paramsFinite (c .before .before .before .args .j .options .params) ≡ true
-fine c = sym (c .before .params-finite .ensures) ∙ not-false _ (c .if1 .left)
+fine : (c : tie.Else1) → optionsFinite (c .before .before .before .args .j .options) ≡ true
+fine c = sym (c .before .options-finite .ensures) ∙ not-false _ (c .if1 .left)
 
 returns-2 : tie.Need-returns-2
 returns-2 c =

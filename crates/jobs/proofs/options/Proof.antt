@@ -10,14 +10,13 @@ returns c =
     rw (
       c .count2 .ensures,
       c .before .count .ensures,
-      c .before .before .number4 .ensures,
-      c .before .before .before .number3 .ensures,
-      c .before .before .before .before .number2 .ensures,
-      c .before .before .before .before .before .number .ensures,
-      c .before .before .before .before .before .before .before .defaults .ensures,
+      c .before .before .number2 .ensures,
+      c .before .before .before .number .ensures,
+      c .before .before .before .before .way .ensures,
+      c .before .before .before .before .before .before .defaults .ensures,
     )
 
 pub options-spec : {M : Type 1} → statement M
 options-spec =
     tie.close (tie.spec (λ c κs. search needs) (λ c κs. search needs) (λ c κs. search needs) (λ c κs. search needs)
-    (λ c κs. search needs) (λ c κs. search needs) (λ c κs. search needs) returns)
+    (λ c κs. search needs) (λ c κs. search needs) returns)

@@ -11,7 +11,7 @@ returns c = search (tests, c .attempt .ensures, c .before .before .m .given .1)
 
 returns-2 : tie.Need-returns-2
 unfolding testOf
-returns-2 c = search (tests, c .probe .ensures, c .before .before .m2 .given .1)
+returns-2 c = search (tests, c .narrow .ensures, c .before .before .m2 .given .1)
 
 returns-3 : tie.Need-returns-3
 unfolding testOf
@@ -23,6 +23,5 @@ returns-4 c = search (tests, c .enum-told .given .1)
 
 pub test-spec : {M : Type 1} → statement M
 test-spec =
-    tie.close (tie.spec (λ c. search needs) (λ c κs. search needs) (λ c. search needs) (λ c κs. search needs)
-    (λ c. search needs) (λ c. search needs)
-    returns returns-2 returns-3 returns-4)
+    tie.close (tie.spec (λ c. search needs) (λ c κs. tt) (λ c. search needs) (λ c κs. tt) (λ c. search needs)
+    (λ c. search needs) returns returns-2 returns-3 returns-4)

@@ -5,18 +5,14 @@ use Rattle.hagerzhang_decisions.proofs.parameters.params_finite.Tie as 
 returns : tie.Need-returns
 returns c =
     rw (
-      c .is-finite7 .ensures,
-      c .before .is-finite6 .ensures,
-      c .before .before .is-finite5 .ensures,
-      c .before .before .before .is-finite4 .ensures,
-      c .before .before .before .before .is-finite3 .ensures,
-      c .before .before .before .before .before .is-finite2 .ensures,
-      c .before .before .before .before .before .before .is-finite .ensures,
-      c .before .before .before .before .before .before .before .both-finite .ensures,
+      c .is-finite5 .ensures,
+      c .before .is-finite4 .ensures,
+      c .before .before .is-finite3 .ensures,
+      c .before .before .before .is-finite2 .ensures,
+      c .before .before .before .before .is-finite .ensures,
+      c .before .before .before .before .before .both-finite .ensures,
     )
 
 pub params-finite-spec : {M : Type 1} → statement M
 params-finite-spec =
-    tie.close
-    (tie.spec
-    (λ c κs. tt) (λ c κs. tt) (λ c κs. tt) (λ c κs. tt) (λ c κs. tt) (λ c κs. tt) (λ c κs. tt) (λ c κs. tt) returns)
+    tie.close (tie.spec (λ c κs. tt) (λ c κs. tt) (λ c κs. tt) (λ c κs. tt) (λ c κs. tt) (λ c κs. tt) returns)
