@@ -187,11 +187,12 @@ impl Search {
     }
 
     fn after_s1(&mut self) -> Outcome {
+        // 02, request 4: no e where the two steps are equal
         let mut e = None;
-        if (self.trial - self.new_b.x).abs() < f64::EPSILON {
+        if (self.trial - self.new_b.x).abs() < f64::EPSILON && self.b.x != self.new_b.x {
             e = Some(secant(self.b, self.new_b));
         }
-        if (self.trial - self.new_a.x).abs() < f64::EPSILON {
+        if (self.trial - self.new_a.x).abs() < f64::EPSILON && self.a.x != self.new_a.x {
             e = Some(secant(self.a, self.new_a));
         }
         match e {

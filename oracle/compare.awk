@@ -1,6 +1,8 @@
 # Compares what the program cases printed with what is expected, case by case.
 # usage: awk -v expected=FILE -v got=FILE [-v kinds=FILE -v cases=FILE] -f compare.awk
 # kinds has a line for each case: its kind, and where in the file cases its bytes begin and how many they are.
+# A case's expected lines may end with PARTED: argmin's S4 asks a NaN there, and 02's request 4 goes on. The program is
+# to ask a step or to come to its limit there, and what it prints from there on is not argmin's.
 # Status: 0 where all agree, 1 otherwise.
 
 # The next case's lines, and how many; the line CASE that ends one case is kept for the next.
@@ -50,10 +52,11 @@ BEGIN {
                 order[++sorts] = kind
             of_kind[kind]++
         }
-        agree = n == m
+        parts = e[n] == "PARTED"
+        agree = parts ? n <= m && g[n] ~ /^(ASK|LIMIT) / : n == m
         refused = 0
         for (i = 1; i <= n; i++) {
-            if (agree && e[i] != g[i])
+            if (agree && e[i] != g[i] && !(parts && i == n))
                 agree = 0
             if (substr(e[i], 1, 4) == "ASK ")
                 asks++
@@ -68,7 +71,9 @@ BEGIN {
                 told["STOP " word[2]]++
             }
         }
-        if (!refused) {
+        if (parts)
+            onward += agree
+        else if (!refused) {
             within++
             within_kind[kind]++
         }
@@ -91,6 +96,7 @@ BEGIN {
     for (i = 1; i <= count; i++)
         line = line "; " names[i] ": " told[names[i]] + 0
     print line
+    printf "%d went on where argmin's S4 asks a NaN for equal steps (02, request 4)\n", onward
     printf "%d cases, %d of them within demand 2's domain: %d disagreements\n", total, within, wrong
     exit wrong || !total
 }

@@ -56,13 +56,19 @@ def point(x0, alpha, d, k):
     return field(POINT, struct.pack(">HHH", len(x0), len(d), k) + words(alpha, *x0, *d))
 
 
-def played(start, reply, most, extra=1):
+def refused_by_01(s):
+    """Whether 01's rules ended this search by 5, where 02's request 4 goes on: the last e of S2 and S3 was 0/0."""
+    return any(not way.startswith("S2 e") for way in getattr(s, "silent", []))
+
+
+def played(start, reply, most, extra=1, onward=False):
     """A search: the start, the answers that reply(step, i) gives while a step is asked, and `extra` more; `most` at
-    most."""
+    most. Unless it is to go onward, it is taken as over where 01 refused it: so the cases that were made before 02's
+    request 4 have the answers that they had."""
     case, s = start, search_of(start[0], start[3:])
     outcome = s.first
     for i in range(most):
-        asked = outcome[0] == "ASK"
+        asked = outcome[0] == "ASK" and (onward or not refused_by_01(s))
         extra -= not asked
         if extra < 0:
             break

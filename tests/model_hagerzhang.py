@@ -8,6 +8,15 @@ NAMES = "delta sigma epsilon theta gamma eta low high first".split()
 DEFAULTS = [F(0.1), F(0.9), F(1e-6), HALF, F(0.66), F(0.01), EPS, F(64), ONE]
 
 
+def near(p, q):
+    return lt(absolute(sub(p[0], q[0])), EPS)
+
+
+def equal_steps(p, q):
+    """As numbers, so the two zeros are equal."""
+    return le(p[0], q[0]) and le(q[0], p[0])
+
+
 def secant(p, q):
     return div(sub(mul(p[0], q[2]), mul(q[0], p[2])), sub(q[2], p[2]))
 
@@ -37,12 +46,13 @@ class Refused(Exception):
 class Search:
     """`first` is the start's outcome, and `held` the bracket's two points and the best, or None before the start is
     in. `growths` is K for the growing start (02, request 3), and None for 01's start of three answers. `retries` is R,
-    which must be 0 until request 7."""
+    which must be 0 until request 7. `silent` has an entry for each iteration in which S2 or S3 gave no e for equal
+    steps: which of them, "e" where the other one gave it, and "L2" where that followed."""
 
     def __init__(self, params, f0, s0, b, n, growths=None, retries=0):
         self.delta, self.sigma, self.epsilon, self.theta, self.gamma, _, self.low, self.high, self.start = params
         self.f0, self.s0, self.b, self.n, self.growths = f0, s0, b, n, growths
-        self.held, self.evaluations, self.iterations = None, 0, 0
+        self.held, self.evaluations, self.iterations, self.silent = None, 0, 0, []
         refused = refusal(params, f0, s0, b, n, growths, retries)
         self.ended, self.steps = ("REFUSED", refused) if refused else None, self.run()
         self.first = self.ended or ("ASK", next(self.steps))
@@ -133,15 +143,27 @@ class Search:
     def iteration(self, a, b):
         c = yield from self.trial(secant(a, b))
         lo, hi = yield from self.update(a, b, c)
-        e = None
-        if lt(absolute(sub(c[0], hi[0])), EPS):
-            e = secant(b, hi)
-        if lt(absolute(sub(c[0], lo[0])), EPS):
-            e = secant(a, lo)
+        # 02, request 4: "From now on S2 gives no e when b and Z have equal steps, and S3 none when a and A have. An
+        # earlier e then stays. S4 runs only if some e was given."
+        e, silent = None, []
+        if near(c, hi):
+            if equal_steps(b, hi):
+                silent.append("S2")
+            else:
+                e = secant(b, hi)
+        if near(c, lo):
+            if equal_steps(a, lo):
+                silent.append("S3")
+            else:
+                e = secant(a, lo)
+        if silent:
+            self.silent.append(" ".join(silent + ["e"] * (e is not None)))
         if e is not None:
             d = yield from self.trial(e)
             lo, hi = yield from self.update(lo, hi, d)
         if lt(mul(self.gamma, sub(b[0], a[0])), sub(hi[0], lo[0])):
+            if silent:
+                self.silent[-1] += " L2"
             d = yield from self.trial(div(add(lo[0], hi[0]), TWO))
             lo, hi = yield from self.update(lo, hi, d)
         return lo, hi

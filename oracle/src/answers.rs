@@ -21,6 +21,9 @@ pub enum Shape {
     Split { low: f64, at: f64, level: f64 },
     /// Rising slopes in a window alone and from `end` on; low costs below the window, costs above L behind it.
     Window { low: f64, high: f64, end: f64, level: f64 },
+    /// With bounds of 0 and 8 units S1's trial is 2 units, U3 begins there, and its first step is 1 unit. Few values
+    /// elsewhere.
+    Close { unit: f64 },
     /// Costs and slopes on the edge of Goldstein's condition, or of the others and the verdict, or a float beside it;
     /// also on edges that another grouping of the products would have.
     Edge { goldstein: bool, f0: f64, s0: f64, c1: f64, c2: f64, level: f64 },
@@ -84,6 +87,14 @@ impl Shape {
                     (level + size, -g)
                 } else {
                     (level + size, g)
+                }
+            }
+            Shape::Close { unit } => {
+                let inner = r.pick(&[(0.5, -1.0), (9.0, 2.0)]);
+                let known = [(0.0, (1.0, -2.0)), (8.0, (9.0, 6.0)), (2.0, (9.0, -1.0)), (1.0, inner)];
+                match known.iter().find(|(units, _)| units * unit == x) {
+                    Some((_, answer)) => *answer,
+                    None => (r.pick(&FEW), r.pick(&FEW)),
                 }
             }
             Shape::Edge { goldstein, f0, s0, c1, c2, level } => {

@@ -100,7 +100,8 @@ fn hex(numbers: &[(f64, f64, f64)]) -> String {
     out
 }
 
-/// What `cases` is to print after CASE for the run's first answers, and for more after its end.
+/// What `cases` is to print after CASE for the run's first answers, and for more after its end; up to PARTED where 02's
+/// request 4 parts from argmin.
 fn expected(run: &Run, answers: usize) -> String {
     let mut out = String::new();
     let mark = run.marks.iter().rev().find(|m| m.answers <= answers);
@@ -115,6 +116,10 @@ fn expected(run: &Run, answers: usize) -> String {
                 End::Stop(word, step) => writeln!(out, "STOP {word} {:016X} {counts}", step.to_bits()),
                 End::Limit(step) => writeln!(out, "LIMIT {:016X} {counts}", step.to_bits()),
                 End::Refused(number) => writeln!(out, "REFUSED {number}"),
+                End::Parted => {
+                    out.push_str("PARTED\n");
+                    return out;
+                }
                 End::Waiting => unreachable!("a run that waits has asked once more than it was answered"),
             },
         }

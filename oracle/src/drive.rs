@@ -1,7 +1,8 @@
 //! Runs argmin's searches as its executor does, and writes down what they ask.
 //!
 //! 01's refusals are not argmin's. They are told here from what argmin asks and is answered: the steps and the answers
-//! tell 2 and 5, and `Watch` tells 6 and 7. What argmin does past a refusal is only counted.
+//! tell 2 and 5, and `Watch` tells 6 and 7. What argmin does past a refusal is only counted. `Watch` also tells where
+//! 02's request 4 parts from argmin, which is followed no further then.
 
 use crate::answers::Model;
 use crate::cases::{Backtracking, Condition, HagerZhang, Start};
@@ -10,7 +11,7 @@ use crate::solver::linesearch::condition::{
     ArmijoCondition, GoldsteinCondition, LineSearchCondition, StrongWolfeCondition, WolfeCondition,
 };
 use crate::solver::linesearch::{BacktrackingLineSearch, HagerZhangLineSearch};
-use crate::watch::Watch;
+use crate::watch::{Over, Watch};
 use crate::{ArgminDot, ArgminScaledAdd};
 
 /// After so many evaluations past a refusal argmin is broken off: U3 can loop for ever.
@@ -22,6 +23,7 @@ pub enum End {
     Stop(&'static str, f64),
     Limit(f64),
     Refused(u32),
+    Parted,
     Waiting,
 }
 
@@ -31,6 +33,7 @@ impl End {
             End::Stop(..) => "STOP".to_string(),
             End::Limit(_) => "LIMIT".to_string(),
             End::Refused(number) => format!("REFUSED {number}"),
+            End::Parted => "PARTED".to_string(),
             End::Waiting => "waiting".to_string(),
         }
     }
@@ -128,8 +131,8 @@ struct Plant<'a> {
     watch: Option<Watch>,
     asks: Vec<f64>,
     answers: Vec<(f64, f64)>,
-    refused: Option<u32>,
-    /// Evaluations past the refusal.
+    over: Option<Over>,
+    /// Evaluations past that.
     past: u32,
     /// The last step and its slope.
     last: (f64, f64),
@@ -138,7 +141,7 @@ struct Plant<'a> {
 impl Plant<'_> {
     fn new(model: &Model, slope_read: bool, most: usize, watch: Option<Watch>) -> Plant<'_> {
         let (asks, answers) = (vec![], vec![]);
-        Plant { model, slope_read, most, watch, asks, answers, refused: None, past: 0, last: (0.0, 0.0) }
+        Plant { model, slope_read, most, watch, asks, answers, over: None, past: 0, last: (0.0, 0.0) }
     }
 }
 
@@ -148,15 +151,15 @@ impl CostFunction for Plant<'_> {
 
     fn cost(&mut self, place: &Place) -> Result<f64, Error> {
         let Place::Step(x) = *place else { unreachable!("cost and slope at the start were supplied") };
-        if self.refused.is_none() {
-            self.refused = match &mut self.watch {
-                Some(watch) => watch.refusal(x),
-                None => (!x.is_finite()).then_some(5),
+        if self.over.is_none() {
+            self.over = match &mut self.watch {
+                Some(watch) => watch.over(x),
+                None => (!x.is_finite()).then_some(Over::Refused(5)),
             };
         }
         let (f, g) = self.model.answer(self.asks.len() + self.past as usize, x);
         self.last = (x, g);
-        if self.refused.is_some() {
+        if self.over.is_some() {
             self.past += 1;
             return if self.past > PATIENCE { Err(Error::BrokenOff) } else { Ok(f) };
         }
@@ -166,7 +169,7 @@ impl CostFunction for Plant<'_> {
         }
         self.answers.push((f, g));
         if !(f.is_finite() && (g.is_finite() || !self.slope_read)) {
-            self.refused = Some(2);
+            self.over = Some(Over::Refused(2));
         } else if let Some(watch) = &mut self.watch {
             watch.answered(x, f, g);
         }
@@ -231,7 +234,7 @@ where
         let mut iterations = 0;
         loop {
             let plant = &mut problem.0;
-            if plant.refused.is_none() {
+            if plant.over.is_none() {
                 let held = solver.held();
                 if let (Some(watch), Some(held)) = (&mut plant.watch, held) {
                     watch.finished(held, (plant.asks[2], plant.answers[2].0, plant.answers[2].1));
@@ -251,11 +254,12 @@ where
     };
     let came = play();
     let Problem(plant) = problem;
-    let (end, past) = match (plant.refused, came) {
+    let (end, past) = match (plant.over, came) {
         (None, Ok(end)) => (end, None),
         (None, Err(Error::BrokenOff)) => (End::Waiting, None),
         (None, Err(error)) => unreachable!("{error:?} with nothing refused"),
-        (Some(n), came) => {
+        (Some(Over::Parted), _) => (End::Parted, None),
+        (Some(Over::Refused(n)), came) => {
             let past = match came {
                 Ok(End::Stop(..)) => Past::Stopped,
                 Ok(_) => Past::AtLimit,

@@ -42,6 +42,9 @@ const SPOILED: usize = 4;
 /// The most cases of a kind in the list, spoiled starts aside.
 const SHARE: u32 = 130;
 
+/// How many searches of the kind close are tried for the list, behind the others; in random cases one in so many is.
+const CLOSE: u64 = 100;
+
 /// The files, and what is counted on the way.
 struct Made {
     files: Files<BufWriter<File>>,
@@ -101,7 +104,8 @@ fn random(made: &mut Made, seed: u64, count: u64) -> io::Result<()> {
     let mut nth = 0;
     while made.files.count < count {
         let r = &mut random_of(seed, nth);
-        let Search { kind, start, model, most, .. } = &make::search(r, nth);
+        let close = nth % CLOSE == 0;
+        let Search { kind, start, model, most, .. } = &if close { make::close(r) } else { make::search(r, nth) };
         let run = drive::run(start, model, *most);
         let all = run.answers.len();
         made.count(&run);
@@ -124,9 +128,10 @@ fn random(made: &mut Made, seed: u64, count: u64) -> io::Result<()> {
 fn list(made: &mut Made, seed: u64, tries: u64) -> io::Result<()> {
     let mut ways = HashSet::new();
     let mut taken = BTreeMap::new();
-    for nth in 0..tries {
+    for nth in 0..tries + CLOSE {
         let r = &mut random_of(seed, nth);
-        let Search { kind, start, model, spoiled, .. } = &make::search(r, nth);
+        let close = nth >= tries;
+        let Search { kind, start, model, spoiled, .. } = &if close { make::close(r) } else { make::search(r, nth) };
         let run = drive::run(start, model, if spoiled.is_some() { SPOILED } else { SHORT });
         let taken = taken.entry(*kind).or_insert(0);
         let new = match spoiled {

@@ -314,6 +314,15 @@ fn spoil(r: &mut Random, start: &mut Start) -> (u64, u64) {
     (at, which)
 }
 
+/// A search in which U3 brings an end to EPS from S1's trial, or a float nearer or farther. Few slopes reach its s0.
+pub fn close(r: &mut Random) -> Search {
+    let unit = f64::from_bits(f64::EPSILON.to_bits() - 1 + r.below(3));
+    let base = hager_zhang(r);
+    let h = HagerZhang { f0: 1.0, s0: 1e300, epsilon: 0.0, theta: 0.5, min: 0.0, max: 8.0 * unit, ..base };
+    let model = Model { shape: Shape::Close { unit }, damage: Damage::None, salt: r.word() };
+    Search { kind: "close", spoiled: None, start: Start::HagerZhang(h), model, most: 60 }
+}
+
 /// A search whose kind goes by its number.
 pub fn search(r: &mut Random, nth: u64) -> Search {
     let hz = |(h, shape): (HagerZhang, Shape)| (Start::HagerZhang(h), shape);

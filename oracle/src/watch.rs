@@ -19,17 +19,29 @@ struct Between {
     had: u32,
 }
 
-/// Follows the bracket's steps by U0 to U3, to tell refusals 6 and 7, and notes the rules that were used. At each
-/// iteration's end its bracket is argmin's.
+/// Follows the bracket's steps by U0 to U3, to tell refusals 6 and 7 and where 02's request 4 parts from argmin, and
+/// notes the rules that were used. At each iteration's end its bracket is argmin's.
 pub struct Watch {
     pub level: f64,
     budget: u32,
     low: f64,
     high: f64,
+    /// The iteration's ends, (a, b).
+    ends: [Point; 2],
     trial: f64,
     stage: Stage,
     u3: Option<Between>,
+    /// Whether S4's e is of two equal steps, and 02 asks another step.
+    parts: bool,
     pub rules: String,
+}
+
+/// Why argmin is not followed any further.
+#[derive(Clone, Copy, PartialEq)]
+pub enum Over {
+    Refused(u32),
+    /// S4 asks the NaN of two equal steps, where 02's request 4 goes on.
+    Parted,
 }
 
 /// The rules as `Watch` notes them.
@@ -61,19 +73,25 @@ impl Watch {
             budget: start.budget,
             low: start.min,
             high: start.max,
+            ends: [(0.0, 0.0, 0.0); 2],
             trial: start.step,
             stage: Stage::Start,
             u3: None,
+            parts: false,
             rules: String::new(),
         }
     }
 
-    /// The refusal that this step meets.
-    pub fn refusal(&mut self, x: f64) -> Option<u32> {
+    /// Whether this step ends the comparison.
+    pub fn over(&mut self, x: f64) -> Option<Over> {
         match &self.u3 {
-            Some(u3) if u3.had == self.budget => Some(6),
-            _ if !x.is_finite() => Some(5),
-            Some(u3) if !(u3.low < x && x < u3.high) => Some(7),
+            Some(u3) if u3.had == self.budget => Some(Over::Refused(6)),
+            None if self.stage == Stage::S4 && self.parts => {
+                assert!(x.is_nan(), "argmin's e of two equal steps is 0/0");
+                Some(Over::Parted)
+            }
+            _ if !x.is_finite() => Some(Over::Refused(5)),
+            Some(u3) if !(u3.low < x && x < u3.high) => Some(Over::Refused(7)),
             Some(_) => None,
             None => {
                 match self.stage {
@@ -124,23 +142,43 @@ impl Watch {
         self.rules.push(rule);
         if updated {
             self.stage = match self.stage {
-                Stage::S1 => self.after_s1(),
+                Stage::S1 => self.after_s1(g),
                 Stage::S4 => Stage::L2,
                 _ => Stage::Done,
             };
         }
     }
 
-    fn after_s1(&mut self) -> Stage {
+    /// What argmin does behind S1's update, whose last answer had the slope g.
+    fn after_s1(&mut self, g: f64) -> Stage {
         let at = |end: f64| (self.trial - end).abs() < f64::EPSILON;
-        let rule = match (at(self.high), at(self.low)) {
+        let (s2, s3) = (at(self.high), at(self.low));
+        let rule = match (s2, s3) {
             (true, true) => 'e',
             (true, false) => 'h',
             (false, true) => 'l',
             (false, false) => 'n',
         };
         self.rules.push(rule);
+        self.parts = self.equal_steps(s2, s3) && self.instead(s2, g).is_finite();
         if rule == 'n' { Stage::L2 } else { Stage::S4 }
+    }
+
+    /// Whether the last of S2 and S3 that holds has two equal steps.
+    fn equal_steps(&self, s2: bool, s3: bool) -> bool {
+        let [a, b] = self.ends;
+        if s3 { a.0 == self.low } else { s2 && b.0 == self.high }
+    }
+
+    /// The step that 02 asks in place of argmin's e: S2's where that has two steps, else L2's. Where L2 does not hold,
+    /// S1's is asked again, and L2's is finite too. Z is the last answer's where it is not b.
+    fn instead(&self, s2: bool, g: f64) -> f64 {
+        let (x, _, slope) = self.ends[1];
+        if s2 && x != self.high {
+            (x * g - self.high * slope) / (g - slope)
+        } else {
+            (self.low + self.high) / 2.0
+        }
     }
 
     pub fn finished(&mut self, [a, b, best]: [Point; 3], c: Point) {
@@ -153,6 +191,7 @@ impl Watch {
             p if p == bits(a) => 'a',
             _ => unreachable!("the best is one of three"),
         });
+        self.ends = [a, b];
         self.stage = Stage::S1;
     }
 }

@@ -25,7 +25,7 @@ use Rattle.hagerzhang_rules.specs.declared.Options.{Options}
 use Rattle.hagerzhang_rules.specs.declared.Setup.{Setup}
 use Rattle.hagerzhang_rules.specs.Parameters.{levelOf, setupOf, startRows}
 use Rattle.hagerzhang_rules.specs.Rules.{point, answerFinite, zeroOf, grownOf, trial, askHigh, enough, growth, starting}
-use Rattle.hagerzhang_rules.specs.Rules.{Report, noneYet, rounds, hagerZhang}
+use Rattle.hagerzhang_rules.specs.Rules.{Report, noneYet, rounds, hagerZhang, hagerZhangBy}
 use Rattle.hagerzhang_rules.specs.Iterations.{reportFinite}
 use Rattle.hagerzhang_rules.proofs.Ranges.{Accepted, low-below-high, start-finite, start-above, start-fits, some-growth}
 use Rattle.hagerzhang_rules.proofs.Demand3 as rules
@@ -73,13 +73,13 @@ module _ (o : Options) (f0 s0 : Float) (ok : Accepted o f0 s0) where
   -- what is told first, and what follows the rules tells at the first answer
   asks-first : (w : Way) → o .way ≡ w
       → told (freshOf s .outcome) ≡ shown (starting s (keeping noneYet) noneYet w then)
-  unfolding hagerZhang
+  unfolding hagerZhangBy
   asks-first w is =
       first-asked s ∙ ap (λ (v : Way). shown (starting s (keeping noneYet) noneYet v then)) is
 
   tells-second : (w : Way) → o .way ≡ w → (f g : Float) (r : Turn) → Follows b f g r
       → told (r .outcome) ≡ shown (respond (starting s (keeping noneYet) noneYet w then) f g)
-  unfolding hagerZhang
+  unfolding hagerZhangBy
   tells-second w is f g r by =
       by .tells ∙ ap (λ (q : Rest Report). shown (respond q f g)) (starts-whole s)
       ∙ ap (λ (v : Way). shown (respond (starting s (keeping noneYet) noneYet v then) f g)) is

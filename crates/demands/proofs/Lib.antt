@@ -12,4 +12,5 @@ pub mod Backtracking
 pub mod Determined
 pub mod StoredJobs
 pub mod StartBracketing
+pub mod ZeroSlope
 pub mod Reached

@@ -17,18 +17,17 @@ use Rattle.backtracking.specs.Backtracking.{setupOf as trialsSetup}
 use Rattle.backtracking.specs.Machine.{freshOf as trialsFresh, answerBy, triedOf}
 use Rattle.hagerzhang_rules.specs.declared.Setup.{Setup}
 use Rattle.hagerzhang_rules.specs.Parameters.{setupOf, startRows}
-use Rattle.hagerzhang_rules.specs.Rules.{answerFinite, updateOf, narrowedOf, S2, S3, L2, bestOver, judgeOf}
-use Rattle.hagerzhang_rules.specs.Rules.{trial, between, U3, updating, further, afterS4, afterS1, iteration}
-use Rattle.hagerzhang_rules.specs.Rules.{EPS, grownOf, askStart, askHigh, enough, growth, starting}
-use Rattle.hagerzhang_rules.specs.Rules.{Report, iterationsIn, decided, verdict, rounds}
-use Rattle.hagerzhang_rules.specs.Rules.{hagerZhang}
+use Rattle.hagerzhang_rules.specs.Rules.{answerFinite, updateOf, narrowedOf, S2, S3, L2, bestOver, judgeOf, trial}
+use Rattle.hagerzhang_rules.specs.Rules.{between, U3, updating, further, afterS4, afterS1, iterationBy, EPS, grownOf}
+use Rattle.hagerzhang_rules.specs.Rules.{askStart, askHigh, enough, growth, starting, Report, iterationsIn, decided}
+use Rattle.hagerzhang_rules.specs.Rules.{verdict, roundsBy, hagerZhang, hagerZhangBy}
 use Rattle.hagerzhang_rules.proofs.Ranges.{Accepted}
 use Rattle.hagerzhang_rules.proofs.UnderWay.{noted, under-way}
 use Rattle.hagerzhang.specs.Machine.{freshOf}
 use Rattle.demands.specs.Runs.{and-then}
-use Rattle.demands.specs.Reached.{f0, s0, down, up, bad, o, allButLast, all, trialOptions}
-use Rattle.demands.specs.Reached.{growing, short, fourOfStart, lastOfStart, allGrowingButLast}
-use Rattle.demands.specs.Reached.{BoundsReached, GrowthReached, TrialsReached}
+use Rattle.demands.specs.Reached.{f0, s0, down, up, bad, o, allButLast, all, trialOptions, growing, short}
+use Rattle.demands.specs.Reached.{fourOfStart, lastOfStart, allGrowingButLast, BoundsReached, GrowthReached}
+use Rattle.demands.specs.Reached.{TrialsReached}
 use Rattle.demands.proofs.Along.{tied, told-at, report-at, asked-by, asked-at}
 
 -- ---- Hager-Zhang: no row refuses the start
@@ -55,8 +54,8 @@ record Computed : Type 0 where
   non-finite : notFinite answerFinite search (bad ∷ bad ∷ []) ≡ 1
 
 computed : Computed
-unfolding under-way accepted after respond shown reported isOver hagerZhang starting askHigh askStart rounds verdict
-    decided judgeOf bestOver iteration afterS1 afterS4 further updating U3 between trial L2 S3 S2 narrowedOf updateOf
+unfolding under-way accepted after respond shown reported isOver hagerZhangBy starting askHigh askStart roundsBy verdict
+    decided judgeOf bestOver iterationBy afterS1 afterS4 further updating U3 between trial L2 S3 S2 narrowedOf updateOf
     add sub mul div neg le lt ofBits ofInt
 computed = record {
   finished = refl;
@@ -112,8 +111,8 @@ record Grew : Type 0 where
   then-over : shown (respond (after grown allGrowingButLast) (up 1ᶠ .0) (up 1ᶠ .1)) ≡ ends (limit EPS)
 
 grew : Grew
-unfolding under-way after respond shown reported isOver hagerZhang starting growth enough grownOf rounds verdict decided
-    judgeOf bestOver iteration afterS1 afterS4 further updating U3 between trial L2 S3 S2 narrowedOf updateOf
+unfolding under-way after respond shown reported isOver hagerZhangBy starting growth enough grownOf roundsBy verdict
+    decided judgeOf bestOver iterationBy afterS1 afterS4 further updating U3 between trial L2 S3 S2 narrowedOf updateOf
     add sub mul div neg le lt ofBits ofInt
 grew = record {
   finished = refl;

@@ -1,13 +1,12 @@
 -- 02, request 3, of every search that `start` gave for a way that grows (`start-bracketing`): from demand 3, and from
 -- what a finished start leaves. Assumes nothing.
 use mathlib.Core.Path.{_≡_, refl, sym, ap, _∙_, subst}
-use mathlib.Core.Bool.{true, false}
+use mathlib.Core.Bool.{false}
 use mathlib.Core.List.{List, _∷_}
 use mathlib.Core.Logic.{_⊎_, inl, inr}
 use mathlib.Core.Option.{some, Option·some-injective}
-use Prim.Native.Nat.{ℕ, _+_, _*_, _≤_}
+use Prim.Native.Nat.{ℕ, _+_}
 use native.Mathlib.Omega.{arith}
-use lib.ListN.{length}
 use lib.Ieee.{Float}
 use Rattle.floats.proofs.Branches.{by-cases}
 use Rattle.refusals.specs.Refusals.{given}
@@ -23,7 +22,8 @@ use Rattle.hagerzhang_rules.specs.declared.Options.{Options}
 use Rattle.hagerzhang_rules.specs.declared.Setup.{Setup}
 use Rattle.hagerzhang_rules.specs.Parameters.{setupOf}
 use Rattle.hagerzhang_rules.specs.Rules.{answerFinite, starting, Summary, Report, noneYet, last, rounds, hagerZhang}
-use Rattle.hagerzhang_rules.specs.Iterations.{mostBy, mostInStart, mostInIteration, Opens, Brings, first}
+use Rattle.hagerzhang_rules.specs.Rules.{hagerZhangBy}
+use Rattle.hagerzhang_rules.specs.Iterations.{mostBy, mostInStart, Opens, Brings, first}
 use Rattle.hagerzhang_rules.proofs.Ranges.{Accepted}
 use Rattle.hagerzhang_rules.proofs.FirstTrial.{best-of-first}
 use Rattle.hagerzhang_rules.proofs.Demand3 as rules
@@ -119,7 +119,7 @@ module _ (K : ℕ) (o : Options) (f0 s0 : Float) (t : Turn) (is : o .way ≡ Gro
   most = ap (λ (w : Way). mostBy w (o .budget)) is
 
   asks-start : told (t .outcome) ≡ asks (o .params .start)
-  unfolding hagerZhang
+  unfolding hagerZhangBy
   asks-start =
       ap (λ (u : Turn). told (u .outcome)) (sym (accepted o f0 s0 t gave .1)) ∙ first-asked st
       ∙ ap (λ (w : Way). shown (starting st (keeping noneYet) noneYet w (λ c u. rounds st (o .limit) u c 0))) is

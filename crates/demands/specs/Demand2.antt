@@ -2,6 +2,7 @@
 -- best step and verdict equal the Rust's bit for bit. They are proved equal to rules U0-U3, S1-S4, L1-L3 and the
 -- conditions as 01 writes them in computed floats." Of Hager-Zhang; outside those limits 01's rules refuse, and so does
 -- the search. Of a start that grows 02, request 3: "demand 2's proof reads the rules written here in place of 01's".
+-- Of S2 to S4 request 4: "Demands 2 and 3 read the mended rule."
 -- (Backtracking: specs/Backtracking.antt. Equal to the Rust's: run and compared, README; of the start of three answers
 -- alone.)
 use Prim.Native.Nat.{ℕ, _<_}
@@ -37,7 +38,7 @@ use Rattle.demands.specs.Runs.{Gave, reachedBy, toldBy}
 -- ---- a search t that `start` gave for the options o, and the cost f0 and slope s0 at step 0
 
 module _ (o : Options) (f0 s0 : Float) (t : Turn) where
-  -- the search as 01 writes it, and 02 of a start that grows
+  -- the search as 01 writes it, with 02's start that grows and its S2 to S4
   abbrev s : Setup
   s = setupOf o f0 s0
 

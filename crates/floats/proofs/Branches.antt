@@ -1,6 +1,6 @@
 -- What closes the needs of branching code against a definition by tests: `search tests` follows the tests that led to a
 -- return. And what is known of a choice. Assumes nothing.
-use mathlib.Core.Path.{_≡_, refl, sym, _∙_}
+use mathlib.Core.Path.{_≡_, refl, sym, ap, _∙_}
 use mathlib.Core.Bool.{Bool, true, false, not, cond, _&&_, _||_, false≢true}
 use borrow.Author.Tests.{not-true, not-false, lt-ltb, le-ltb, le-leb, lt-leb}
 
@@ -13,6 +13,9 @@ if-no b x y r e h = rw e h
 -- a test that is a call's result, or its denial
 pub by-call : {A : Type 0} (t b v : A) → t ≡ b → t ≡ v → b ≡ v
 by-call t b v e h = sym e ∙ h
+
+pub and-by-call : (t b q v : Bool) → t ≡ b → (t && q) ≡ v → (b && q) ≡ v
+and-by-call t b q v e f = ap (λ (x : Bool). x && q) (sym e) ∙ f
 
 pub not-by-call : (t b : Bool) → t ≡ b → not t ≡ true → b ≡ false
 not-by-call t b e h = sym e ∙ not-true t h
@@ -35,6 +38,11 @@ by-cases₂ P true p q = p refl
 by-cases₂ P false p q = q refl
 
 -- ---- the parts of a test of several
+-- a test that cannot hold fails
+pub false-if : (b : Bool) → (b ≡ true → ⊥) → b ≡ false
+false-if true never = absurd (never refl)
+false-if false never = refl
+
 pub both : (a b : Bool) → a ≡ true → b ≡ true → (a && b) ≡ true
 both a b e h = rw (e, h)
 

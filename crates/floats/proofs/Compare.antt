@@ -1,11 +1,12 @@
--- The three facts about `lt` and `le` of floats from which the laws of Order.antt follow: `le` is transitive, `lt`
--- excludes the converse `le`, and where `lt` fails between two values that are no NaN the converse `le` holds. Assumes
--- nothing.
-use mathlib.Core.Bool.{true, false, not}
-use Prim.Native.Nat.{_*_}
-use lib.Dec.{T}
-use lib.Ieee.{Float, nan, inf, fin, up, down, lt, le, eq, isNan}
-use lib.Ieee.Fits.{down-pos}
+-- The facts about `lt`, `le` and `eq` of floats from which the laws of Order.antt follow: `le` is transitive, `lt`
+-- excludes the converse `le`, where `lt` fails between two values that are no NaN the converse `le` holds, and `eq`
+-- holds both ways. Assumes nothing.
+use mathlib.Core.Path.{subst}
+use mathlib.Core.Bool.{Bool, true, false, not, _||_, Bool·beq}
+use Prim.Native.Nat.{ℕ, _*_}
+use lib.Dec.{T, eqb, eqb→eq, eqb-refl}
+use lib.Ieee.{Float, nan, inf, fin, up, down, level, lt, le, eq, isNan}
+use lib.Ieee.Fits.{down-pos, and-i, and-l, and-r}
 use Rattle.floats.proofs.Tests.{or-l}
 use Rattle.floats.proofs.Signed.{below-says, not-below-says, at-most-says, at-most-test, at-most-trans, clash}
 
@@ -88,6 +89,32 @@ converse (fin s m e) (fin t n d) p q h =
     let a = m * up e * down d in
     let b = n * up d * down e in
     at-most-test s t a b (not-below-says s t a b h)
+
+-- ---- equal numbers
+signs-back : (s t z : Bool) → T (Bool·beq s t || z) → T (Bool·beq t s || z)
+signs-back true true z h = tt
+signs-back true false z h = h
+signs-back false true z h = h
+signs-back false false z h = tt
+
+level-back : (s t : Bool) (a b : ℕ) → T (level s a t b) → T (level t b s a)
+level-back s t a b h =
+    subst (λ (k : ℕ). T (level t k s a)) (eqb→eq a b (and-l (eqb a b) (Bool·beq s t || eqb a 0) h))
+    (and-i (eqb a a) (Bool·beq t s || eqb a 0) (eqb-refl a)
+    (signs-back s t (eqb a 0) (and-r (eqb a b) (Bool·beq s t || eqb a 0) h)))
+
+pub equal-back : (x y : Float) → T (eq x y) → T (eq y x)
+unfolding eq
+equal-back nan y h = absurd h
+equal-back (inf s) nan h = absurd h
+equal-back (inf true) (inf true) h = tt
+equal-back (inf true) (inf false) h = absurd h
+equal-back (inf false) (inf true) h = absurd h
+equal-back (inf false) (inf false) h = tt
+equal-back (inf s) (fin t n d) h = absurd h
+equal-back (fin s m e) nan h = absurd h
+equal-back (fin s m e) (inf t) h = absurd h
+equal-back (fin s m e) (fin t n d) h = level-back s t (m * up e * down d) (n * up d * down e) h
 
 -- ---- what a comparison that holds says of its operands
 pub weaken : (x y : Float) → T (lt x y) → T (le x y)

@@ -8,3 +8,4 @@ pub mod Rounding
 pub mod Growth
 pub mod Shrinks
 pub mod Same
+pub mod Itself

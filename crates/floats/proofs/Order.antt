@@ -11,7 +11,7 @@ use lib.Ieee.Bits.{is-true, is-false}
 use lib.Ieee.Scale.{finite}
 use Rattle.floats.specs.Arithmetic.{_<ᶠ_, _≤ᶠ_, 0ᶠ}
 use Rattle.floats.proofs.Tests.{yes, no, yes-or-no, or-r, or-other}
-use Rattle.floats.proofs.Compare.{trans, excludes, converse, weaken, left-real, right-real}
+use Rattle.floats.proofs.Compare.{trans, excludes, converse, weaken, left-real, right-real, equal-back}
 
 -- ---- no NaN
 pub finite→real : (x : Float) → finite x ≡ true → isNan x ≡ false
@@ -42,6 +42,9 @@ le→nlt x y h = elim (yes-or-no (lt y x)) [ inl k ↦ absurd (excludes y x k (y
 pub eq→le : (x y : Float) → eq x y ≡ true → x ≤ᶠ y ≡ true
 unfolding le
 eq→le x y h = is-true (le x y) (or-r (lt x y) (eq x y) (yes h))
+
+pub eq→ge : (x y : Float) → eq x y ≡ true → y ≤ᶠ x ≡ true
+eq→ge x y h = eq→le y x (is-true (eq y x) (equal-back x y (yes h)))
 
 -- ---- from a test that failed, between two values that are no NaN
 pub nlt→le : (x y : Float) → isNan x ≡ false → isNan y ≡ false → x <ᶠ y ≡ false → y ≤ᶠ x ≡ true

@@ -193,7 +193,7 @@ across (fin true m e) (fin true n d) p q = absurd (true≢false q)
 across (fin true m e) (fin false n d) p q = at-most-test true false (m * up e * down d) (n * up d * down e) tt
 
 -- ---- `round` keeps the order
-zero-val : (f : Format) (s : Bool) (a c : ℕ) → 0 < c → a ≡ 0 → HasValue (round f s a c) s a c
+pub zero-val : (f : Format) (s : Bool) (a c : ℕ) → 0 < c → a ≡ 0 → HasValue (round f s a c) s a c
 zero-val f s a c C e = subst (λ (x : ℕ). HasValue (round f s x c) s x c) (sym e) (zero-units f s c C)
 
 pub round-le : (f : Format) (s t : Bool) (a b c d : ℕ) → 0 < b → 0 < d → AtMost s (a * d) t (c * b)

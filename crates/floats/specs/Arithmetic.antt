@@ -3,11 +3,11 @@
 -- arithmetic. A comparison is a test: where a NaN stands it is false, and -0.0 and +0.0 are equal to it. `finite` is
 -- the library's (lib.Ieee.Scale): false at a NaN and at both infinities, true at every other value.
 use mathlib.Core.Bool.{Bool}
-use lib.Ieee.{Float, binary64, ofBits, add, sub, mul, div, lt, le}
+use lib.Ieee.{Float, binary64, ofBits, add, sub, mul, div, lt, le, eq}
 
 infixl 70 _⊗_ _⊘_
 infixl 60 _⊕_ _⊖_
-infix 40 _<ᶠ_ _≤ᶠ_ _>ᶠ_ _≥ᶠ_
+infix 40 _<ᶠ_ _≤ᶠ_ _>ᶠ_ _≥ᶠ_ _=ᶠ_
 abbrev pub _⊕_ : Float → Float → Float
 x ⊕ y = add binary64 x y
 
@@ -31,6 +31,9 @@ x >ᶠ y = lt y x
 
 abbrev pub _≥ᶠ_ : Float → Float → Bool
 x ≥ᶠ y = le y x
+
+abbrev pub _=ᶠ_ : Float → Float → Bool
+x =ᶠ y = eq x y
 
 -- the literals of 01's rules: 0.0, which is +0, and 0.5, 1.0 and 2.0; and 5.0, of 02's request 3
 abbrev pub 0ᶠ : Float

@@ -62,8 +62,9 @@ use Rattle.hagerzhang.specs.declared.state.Started.the-variants.{Began, 
 use Rattle.hagerzhang_rules.specs.Parameters.{setupOf, startRows}
 use Rattle.hagerzhang_rules.specs.Rules.{point, answerFinite, middleOf, narrowedOf, longerOf, secantOf, S4, L2, bestOf}
 use Rattle.hagerzhang_rules.specs.Rules.{judgeOf, asking, trial, between, U3, updating, update, further, afterS4}
-use Rattle.hagerzhang_rules.specs.Rules.{afterS1, iteration, askStart, askHigh, enough, growth, starting as starts-by}
-use Rattle.hagerzhang_rules.specs.Rules.{Report, noneYet, reportOf, decided, verdict, rounds, hagerZhang}
+use Rattle.hagerzhang_rules.specs.Rules.{afterS1, iteration, iterationBy, askStart, askHigh, enough, growth}
+use Rattle.hagerzhang_rules.specs.Rules.{starting as starts-by, Report, noneYet, reportOf, decided, verdict, rounds}
+use Rattle.hagerzhang_rules.specs.Rules.{roundsBy, hagerZhang, hagerZhangBy}
 use Rattle.hagerzhang_decisions.proofs.Decides.{decides}
 use Rattle.hagerzhang.specs.State.{narrowing}
 use Rattle.hagerzhang.specs.Moves.{triesOf, finishedOf, attemptOf, probeOf, narrowBy, testOf, madeBy, outlookBy}
@@ -143,7 +144,7 @@ module _ (s : Setup) (h : s .options .limit < 4294967296) (w : Bracket) (c : Poi
   onwards (suc n) = iteration s (keeping (reportOf s w c i)) (reportOf s w c i) w (λ v. rounds s n v c (i + 1))
 
   round-is : (n : ℕ) → verdict s w c i (onwards n) ≡ rounds s n w c i
-  unfolding onwards rounds
+  unfolding onwards roundsBy
   round-is zero = refl
   round-is (suc n) = refl
 
@@ -153,7 +154,7 @@ module _ (s : Setup) (h : s .options .limit < 4294967296) (w : Bracket) (c : Poi
 
   begins : (n : ℕ) → oneMore i ≡ i + 1 → n ≡ suc (N - oneMore i)
       → moved s done (triesOf w ByS1 (secantOf (w .a) (w .b))) ≡ seen (onwards n)
-  unfolding onwards iteration afterTrial trial
+  unfolding onwards iterationBy afterTrial trial
   begins n p e = rw (e, ← p) (tries s done ByS1 w (secantOf (w .a) (w .b)))
 
   unjudged : moved s done (outlookBy s done Fails) ≡ seen (onwards (N - i))
@@ -202,7 +203,7 @@ module _ (s : Setup) (h : s .options .limit < 4294967296) (fin : Finished) where
 
   after-S1 : (c : Float) (u : Bracket)
       → went s fin (afterS1Of gamma (fin .bracket) c u)
-      ≡ seen (afterS1 s (keeping (lastOf fin)) (lastOf fin) (fin .bracket) c u (closed s fin))
+      ≡ seen (afterS1 s (keeping (lastOf fin)) (lastOf fin) (S4 (fin .bracket) c u) (fin .bracket) u (closed s fin))
   unfolding afterS1 afterTrial
   after-S1 c u =
       tried u ByS4 (afterS4Of gamma (fin .bracket) u)
@@ -328,7 +329,7 @@ begins-by s (Bounded e) = refl
 begins-by s (Growing K) = refl
 
 pub starts-whole : (s : Setup) → meaning s (Open (Starting (openingOf s))) ≡ hagerZhang s
-unfolding hagerZhang
+unfolding hagerZhangBy
 starts-whole s = begins-by s (s .options .way)
 
 -- it asks a step, so that it is what is left once that is told

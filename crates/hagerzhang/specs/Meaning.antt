@@ -19,7 +19,7 @@ use Rattle.hagerzhang.specs.declared.state.Growth.{Growth}
 use Rattle.hagerzhang.specs.declared.state.Kept.{Kept}
 use Rattle.hagerzhang.specs.declared.state.Kept.the-variants.{NoneYet, Last}
 use Rattle.hagerzhang.specs.declared.state.Rule.{Rule}
-use Rattle.hagerzhang.specs.declared.state.Rule.the-variants.{S1, S4, L2}
+use Rattle.hagerzhang.specs.declared.state.Rule.the-variants.{S1 as ByS1, S4 as ByS4, L2 as ByL2}
 use Rattle.hagerzhang.specs.declared.state.Trial.{Trial}
 use Rattle.hagerzhang.specs.declared.state.Asked.{Asked}
 use Rattle.hagerzhang.specs.declared.state.Asked.the-variants.{Update, Between}
@@ -43,6 +43,7 @@ use Rattle.hagerzhang_rules.specs.Rules.{
   narrowedOf,
   zeroOf,
   grownOf,
+  S4,
   Report,
   noneYet,
   last,
@@ -97,9 +98,10 @@ module _ (s : Setup) (fin : Finished) where
 
   -- how the iteration goes on from the update of a trial at c
   unfoldable pub afterTrial : Rule → Float → Bracket → Rest Report
-  afterTrial S1 c u = afterS1 s (keeping (lastOf fin)) (lastOf fin) (fin .bracket) c u closed
-  afterTrial S4 c u = afterS4 s (keeping (lastOf fin)) (lastOf fin) (fin .bracket) u closed
-  afterTrial L2 c u = closed u
+  afterTrial ByS1 c u =
+      afterS1 s (keeping (lastOf fin)) (lastOf fin) (S4 (fin .bracket) c u) (fin .bracket) u closed
+  afterTrial ByS4 c u = afterS4 s (keeping (lastOf fin)) (lastOf fin) (fin .bracket) u closed
+  afterTrial ByL2 c u = closed u
 
   -- what a finite answer leads to: to the trial itself, or to U3's step
   unfoldable pub onAsked : Trial → Asked → Float → Float → Rest Report

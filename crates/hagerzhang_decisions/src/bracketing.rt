@@ -1,5 +1,5 @@
 // 01's rules that move the bracket, each as a decision on points and floats: the update, the secant, S2 to S4 and L2
-// (argmin's hagerzhang.rs: update, secant, secant2).
+// (argmin's hagerzhang.rs: update, secant, secant2). S2 and S3 are those of 02's request 4.
 
 use hagerzhang_rules::Bracket;
 use hagerzhang_rules::Came;
@@ -67,21 +67,21 @@ fn is_near(x: f64, y: f64) -> bool
 
 // ---- 01, "Iteration on (a, b)": w is (a, b), c is c.x, and u is (A, Z)
 
-// "S2: if |c.x - Z.x| < EPS, e = secant(b, Z)."
+// "S2: if |c.x - Z.x| < EPS, e = secant(b, Z)." 02, request 4: "no e when b and Z have equal steps".
 fn s2(w: Bracket, c: f64, u: Bracket) -> Further
     ensures { λ r. ⌜ r ≡ S2 w c u ⌝ }
 {
-    if is_near(c, u.b.x) {
+    if is_near(c, u.b.x) & (w.b.x != u.b.x) {
         return Further::At(secant(w.b, u.b));
     }
     Further::Nothing
 }
 
-// "S3: if |c.x - A.x| < EPS, e = secant(a, A), overwriting S2's."
+// "S3: if |c.x - A.x| < EPS, e = secant(a, A), overwriting S2's." 02, request 4: "none when a and A have".
 fn s3(w: Bracket, c: f64, u: Bracket) -> Further
     ensures { λ r. ⌜ r ≡ S3 w c u ⌝ }
 {
-    if is_near(c, u.a.x) {
+    if is_near(c, u.a.x) & (w.a.x != u.a.x) {
         return Further::At(secant(w.a, u.a));
     }
     Further::Nothing
@@ -97,7 +97,8 @@ fn or_else(e: Further, d: Further) -> Further
     }
 }
 
-// "S4: if either held, ask e and update (A, Z) with it." The step e is S3's, which overwrites S2's.
+// "S4: if either held, ask e and update (A, Z) with it." The step e is S3's, which overwrites S2's; where S3 gives
+// none, "An earlier e then stays" (02, request 4).
 pub fn s4(w: Bracket, c: f64, u: Bracket) -> Further
     ensures { λ r. ⌜ r ≡ S4 w c u ⌝ }
 {

@@ -25,22 +25,20 @@ use Rattle.hagerzhang_rules.specs.declared.Options.{Options}
 use Rattle.hagerzhang_rules.specs.declared.Setup.{Setup}
 use Rattle.hagerzhang_rules.specs.Parameters.{setupOf}
 use Rattle.hagerzhang_rules.specs.Rules.{point, bracket, answerFinite, Summary, Report, noneYet, last}
-use Rattle.hagerzhang_rules.specs.Rules.{iterationsIn}
-use Rattle.hagerzhang_rules.specs.Rules.{rounds, askStart, askHigh, starting, hagerZhang}
+use Rattle.hagerzhang_rules.specs.Rules.{iterationsIn, rounds, askStart, askHigh, starting, hagerZhang}
+use Rattle.hagerzhang_rules.specs.Rules.{hagerZhangBy}
 use Rattle.hagerzhang_rules.specs.Brackets.{premise, Ordered}
 use Rattle.hagerzhang_rules.specs.Iterations.{progress, Whole, Brings, AskedBecause, of-bounds, as-first}
-use Rattle.hagerzhang_rules.specs.Iterations.{as-longer}
-use Rattle.hagerzhang_rules.specs.Iterations.{as-trial, inside, standing, EndedBecause, not-finite}
-use Rattle.hagerzhang_rules.specs.Iterations.{trial-not-finite}
-use Rattle.hagerzhang_rules.specs.Iterations.{U3-not-finite, budget-spent, not-between, already, reportFinite}
+use Rattle.hagerzhang_rules.specs.Iterations.{as-longer, as-trial, inside, standing, EndedBecause, not-finite}
+use Rattle.hagerzhang_rules.specs.Iterations.{trial-not-finite, U3-not-finite, budget-spent, not-between, already}
+use Rattle.hagerzhang_rules.specs.Iterations.{reportFinite}
 use Rattle.hagerzhang_rules.proofs.Apart.{none-not-last, to-not-on, cons-not-nil}
 use Rattle.hagerzhang_rules.proofs.Ranges.{Accepted, low-below-high}
 use Rattle.hagerzhang_rules.proofs.UnderWay.{noted, since, under-way, finished-by}
-use Rattle.hagerzhang_rules.proofs.Iterations.{In-order, mostAt, Asks, Stands}
+use Rattle.hagerzhang_rules.proofs.Iterations.{In-order, mostAt, Stands}
 use Rattle.hagerzhang_rules.proofs.Along.{report-fine, few-asked, asks-at, ended-at, stands-after, answer-moves}
-use Rattle.hagerzhang_rules.proofs.Along.{stands-along}
-use Rattle.hagerzhang_rules.proofs.Along.{each-finished, finished-counted, Holds, holds-along, Premised}
-use Rattle.hagerzhang_rules.proofs.Along.{premised-along}
+use Rattle.hagerzhang_rules.proofs.Along.{stands-along, each-finished, finished-counted, Holds, holds-along}
+use Rattle.hagerzhang_rules.proofs.Along.{Premised, premised-along}
 use Rattle.hagerzhang_rules.proofs.EachIteration.{rounds-report}
 use Rattle.hagerzhang_rules.proofs.EachStart.{search-stands}
 use Rattle.hagerzhang_rules.proofs.EndsInTime.{search-reports}
@@ -176,7 +174,7 @@ module _ (o : Options) (f0 s0 : Float) (ok : Accepted o f0 s0) where
     -- either all three are finite, or it is refused
     begun : (Q : Rest Report → Type 0) → Q on → ((why : Why) → Q (endWith noneYet (refusal why)))
         → Q (after (hagerZhang s) (ya ∷ yb ∷ yc ∷ []))
-    unfolding after respond hagerZhang starting askHigh askStart
+    unfolding after respond hagerZhangBy starting askHigh askStart
     begun Q go refuses =
         subst (λ (w : Way). Q (after (starting s (keeping noneYet) noneYet w (λ c u. rounds s (o .limit) u c 0))
         (ya ∷ yb ∷ yc ∷ [])))

@@ -21,23 +21,16 @@ use Rattle.hagerzhang_rules.specs.declared.Further.{Further}
 use Rattle.hagerzhang_rules.specs.declared.Further.the-variants.{Nothing, At}
 use Rattle.hagerzhang_rules.specs.declared.Judged.{Judged}
 use Rattle.hagerzhang_rules.specs.declared.Judged.the-variants.{Holds, Fails}
-use Rattle.hagerzhang_rules.specs.Rules.{point, bracket, updateOf}
-use Rattle.hagerzhang_rules.specs.Rules.{secantOf, S4, L2, lowest, bestOver, bestOf}
-use Rattle.hagerzhang_rules.specs.Rules.{judgeOf, trial, updating, update, further, afterS4}
-use Rattle.hagerzhang_rules.specs.Rules.{afterS1, iteration, Summary}
-use Rattle.hagerzhang_rules.specs.Rules.{Report, last, reportOf, decided, verdict, rounds}
+use Rattle.hagerzhang_rules.specs.Rules.{point, bracket, updateOf, secantOf, S4, L2, lowest, bestOver, bestOf}
+use Rattle.hagerzhang_rules.specs.Rules.{judgeOf, trial, updating, update, further, afterS4, afterS1, iteration}
+use Rattle.hagerzhang_rules.specs.Rules.{iterationBy, Summary, Report, last, reportOf, decided, verdict, rounds}
+use Rattle.hagerzhang_rules.specs.Rules.{roundsBy}
 use Rattle.hagerzhang_rules.specs.Brackets.{Ordered}
 use Rattle.hagerzhang_rules.specs.Iterations as words
-use Rattle.hagerzhang_rules.specs.Iterations.{Alone, alone, Plays, not-yet}
-use Rattle.hagerzhang_rules.specs.Iterations.{there}
-use Rattle.hagerzhang_rules.specs.Iterations.{standing, had}
-use Rattle.hagerzhang_rules.specs.Iterations.{pointFinite}
-use Rattle.hagerzhang_rules.proofs.Iterations.{Fine, Stands, ended, Arrives}
-use Rattle.hagerzhang_rules.proofs.Iterations.{stays, finishes, none-asked}
-use Rattle.hagerzhang_rules.proofs.StaysBracket.{Frame, Sound}
-use Rattle.hagerzhang_rules.proofs.StaysBracket.{SoundUpdate, reaches, more}
-use Rattle.hagerzhang_rules.proofs.StaysBracket.{on-bracket, sound-within, sound-stays, sound-self}
-use Rattle.hagerzhang_rules.proofs.StaysBracket.{updated-sound}
+use Rattle.hagerzhang_rules.specs.Iterations.{Alone, alone, Plays, not-yet, there, standing, had, pointFinite}
+use Rattle.hagerzhang_rules.proofs.Iterations.{Fine, Stands, ended, Arrives, stays, finishes, none-asked}
+use Rattle.hagerzhang_rules.proofs.StaysBracket.{Frame, Sound, SoundUpdate, reaches, more, on-bracket}
+use Rattle.hagerzhang_rules.proofs.StaysBracket.{sound-within, sound-stays, sound-self, updated-sound}
 use Rattle.hagerzhang_rules.proofs.Within.{Comes, Goes, one-more-asked, one-more-had, ends, asks, narrows}
 
 -- ---- one iteration, where p is reported and N allows one more
@@ -116,7 +109,7 @@ module _ (s : Setup) (fL : finite (s .level) ≡ true) (p : Summary) (fine : Fin
 
   iterates : (then : Bracket → Rest Report) → Continues (3 + 3 * B) then (λ v. end (inr v))
       → On-p [] (iteration s (keeping k) k w then)
-  unfolding iteration afterS1 afterS4 standing
+  unfolding iterationBy afterS1 afterS4 standing
   iterates then go =
       let ends-fine = and-first (pointFinite (w .a) && pointFinite (w .b)) (pointFinite (p .best)) (fine .numbers) in
       let fa = and-first (pointFinite (w .a)) (pointFinite (w .b)) ends-fine in
@@ -141,7 +134,7 @@ module _ (s : Setup) where
   decided-reports k x go Fails e = e
 
   pub rounds-report : (n : ℕ) (w : Bracket) (c : Point) (i : ℕ) → reported (rounds s n w c i) ≡ reportOf s w c i
-  unfolding rounds verdict iteration trial reported
+  unfolding roundsBy verdict iterationBy trial reported
   rounds-report zero w c i = decided-reports (reportOf s w c i) _ _ (judgeOf s (bestOf (w .a) (w .b) c)) refl
   rounds-report (suc n) w c i =
       decided-reports (reportOf s w c i) _ _ (judgeOf s (bestOf (w .a) (w .b) c))
@@ -171,7 +164,7 @@ module _ (s : Setup) where
 
   pub rounds-stand : finite (s .level) ≡ true → (n : ℕ) (w : Bracket) (c : Point) (i : ℕ) → n + i ≡ s .options .limit
       → Fine s (reportOf s w c i) → pointFinite c ≡ true → Stands s [] (rounds s n w c i)
-  unfolding rounds verdict
+  unfolding roundsBy verdict
   rounds-stand fL zero w c i total fine fc =
       decided-stands (record { bracket = w; best = bestOf (w .a) (w .b) c; iterations = i }) _
       (judgeOf s (bestOf (w .a) (w .b) c)) fine refl

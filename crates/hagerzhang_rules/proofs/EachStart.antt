@@ -32,24 +32,18 @@ use Rattle.hagerzhang_rules.specs.declared.Came.the-variants.{To, On}
 use Rattle.hagerzhang_rules.specs.declared.Grown.{Grown}
 use Rattle.hagerzhang_rules.specs.declared.Grown.the-variants.{Enough, TooShort}
 use Rattle.hagerzhang_rules.specs.Parameters.{setupOf}
-use Rattle.hagerzhang_rules.specs.Rules.{answerFinite, point, bracket}
-use Rattle.hagerzhang_rules.specs.Rules.{zeroOf, grownOf, longerOf, bestOf}
-use Rattle.hagerzhang_rules.specs.Rules.{asking, trial, U3}
-use Rattle.hagerzhang_rules.specs.Rules.{askStart, askHigh, enough, growth, starting}
-use Rattle.hagerzhang_rules.specs.Rules.{Report, noneYet, rounds, hagerZhang}
+use Rattle.hagerzhang_rules.specs.Rules.{answerFinite, point, bracket, zeroOf, grownOf, longerOf, bestOf, asking}
+use Rattle.hagerzhang_rules.specs.Rules.{trial, U3, askStart, askHigh, enough, growth, starting, Report, noneYet}
+use Rattle.hagerzhang_rules.specs.Rules.{rounds, hagerZhang, hagerZhangBy}
 use Rattle.hagerzhang_rules.specs.Iterations as words
-use Rattle.hagerzhang_rules.specs.Iterations.{Alone, startAlone, Plays, not-yet, OneOf, here}
-use Rattle.hagerzhang_rules.specs.Iterations.{there, mostBy, mostInStart, Started-from, at-zero, asked-then}
-use Rattle.hagerzhang_rules.specs.Iterations.{Opens}
-use Rattle.hagerzhang_rules.specs.Iterations.{earlierOf, cameBy, tried, standing}
-use Rattle.hagerzhang_rules.specs.Iterations.{inside, pointFinite}
+use Rattle.hagerzhang_rules.specs.Iterations.{Alone, startAlone, Plays, not-yet, OneOf, here, there, mostBy}
+use Rattle.hagerzhang_rules.specs.Iterations.{mostInStart, Started-from, at-zero, asked-then, Opens, earlierOf}
+use Rattle.hagerzhang_rules.specs.Iterations.{cameBy, tried, standing, inside, pointFinite}
 use Rattle.hagerzhang_rules.proofs.Apart.{not-both}
 use Rattle.hagerzhang_rules.proofs.Ranges.{Accepted, level-finite, f0-finite, s0-finite, start-finite}
-use Rattle.hagerzhang_rules.proofs.Ranges.{min-finite}
-use Rattle.hagerzhang_rules.proofs.Ranges.{max-finite, low-below-high, start-above, start-fits, s0-below}
-use Rattle.hagerzhang_rules.proofs.Ranges.{f0-below-level}
-use Rattle.hagerzhang_rules.proofs.Iterations.{Fine, Stands, Arrives}
-use Rattle.hagerzhang_rules.proofs.Iterations.{stays, begins, none-asked}
+use Rattle.hagerzhang_rules.proofs.Ranges.{min-finite, max-finite, low-below-high, start-above, start-fits}
+use Rattle.hagerzhang_rules.proofs.Ranges.{s0-below, f0-below-level}
+use Rattle.hagerzhang_rules.proofs.Iterations.{Fine, Stands, Arrives, stays, begins, none-asked}
 use Rattle.hagerzhang_rules.proofs.StaysBracket.{lowMeets, highMeets, Frame, Low, SoundCame, is-to, is-on}
 use Rattle.hagerzhang_rules.proofs.StaysBracket.{sound-premise, falling, under, more, now}
 use Rattle.hagerzhang_rules.proofs.Within.{Goes, one-more-asked, one-more-had, ends, asks, narrows}
@@ -318,5 +312,5 @@ module _ (o : Options) (f0 s0 : Float) (ok : Accepted o f0 s0) where
   by-way (Growing K) is = growing-stands K is
 
   pub search-stands : Stands s [] (hagerZhang s)
-  unfolding hagerZhang
+  unfolding hagerZhangBy
   search-stands = none-asked (by-way (o .way) refl)

@@ -19,7 +19,7 @@ use Rattle.hagerzhang_rules.specs.declared.Way.the-variants.{Bounded, Gr
 use Rattle.hagerzhang_rules.specs.declared.Options.{Options}
 use Rattle.hagerzhang_rules.specs.declared.Setup.{Setup}
 use Rattle.hagerzhang_rules.specs.Parameters.{setupOf}
-use Rattle.hagerzhang_rules.specs.Rules.{answerFinite, starting, Report, noneYet, last, hagerZhang}
+use Rattle.hagerzhang_rules.specs.Rules.{answerFinite, starting, Report, noneYet, last, hagerZhang, hagerZhangBy}
 use Rattle.hagerzhang_rules.specs.Iterations.{mostInStart, mostInIteration, Brings, as-before, first}
 use Rattle.hagerzhang_rules.specs.Iterations.{finished-one}
 use Rattle.hagerzhang_rules.proofs.Ranges.{Accepted}
@@ -81,7 +81,7 @@ start-reports s (Bounded e) then = refl
 start-reports s (Growing K) then = refl
 
 pub search-reports : (s : Setup) → reported (hagerZhang s) ≡ noneYet
-unfolding hagerZhang
+unfolding hagerZhangBy
 search-reports s = start-reports s (s .options .way) _
 
 pub search-within : (o : Options) (f0 s0 : Float) → Accepted o f0 s0

@@ -2,6 +2,9 @@ pub mod MarkedSums
 pub mod StartSums
 pub mod Ranges
 pub mod Apart
+pub mod Passes
+pub mod ZeroSlope
+pub mod EndSums
 pub mod StaysBracket
 pub mod UnderWay
 pub mod Iterations

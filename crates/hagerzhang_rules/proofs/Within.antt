@@ -19,20 +19,13 @@ use Rattle.hagerzhang_rules.specs.declared.Bracket.{Bracket}
 use Rattle.hagerzhang_rules.specs.declared.Setup.{Setup}
 use Rattle.hagerzhang_rules.specs.declared.Came.{Came}
 use Rattle.hagerzhang_rules.specs.declared.Came.the-variants.{To, On}
-use Rattle.hagerzhang_rules.specs.Rules.{point, bracket, answerFinite, middleOf, isBetween, narrowedOf}
-use Rattle.hagerzhang_rules.specs.Rules.{asking, between, U3}
-use Rattle.hagerzhang_rules.specs.Rules.{iteration}
-use Rattle.hagerzhang_rules.specs.Rules.{Report, last}
+use Rattle.hagerzhang_rules.specs.Rules.{point, answerFinite, middleOf, isBetween, narrowedOf, asking, between}
+use Rattle.hagerzhang_rules.specs.Rules.{U3, Report}
 use Rattle.hagerzhang_rules.specs.Iterations as words
-use Rattle.hagerzhang_rules.specs.Iterations.{Alone, Plays, then-asked, here}
-use Rattle.hagerzhang_rules.specs.Iterations.{there}
-use Rattle.hagerzhang_rules.specs.Iterations.{earlierOf, led, standing, had, hadBy, InU3}
-use Rattle.hagerzhang_rules.specs.Iterations.{AskedBecause, EndedBecause, inside}
-use Rattle.hagerzhang_rules.proofs.Iterations.{Fine, mostAt, Allowed, Asks, awaiting, ended, Arrives}
-use Rattle.hagerzhang_rules.proofs.Iterations.{stays}
-use Rattle.hagerzhang_rules.proofs.StaysBracket.{Frame, Sound, SoundCame, is-to, is-on}
-use Rattle.hagerzhang_rules.proofs.StaysBracket.{more}
-use Rattle.hagerzhang_rules.proofs.StaysBracket.{narrowed-sound}
+use Rattle.hagerzhang_rules.specs.Iterations.{Alone, Plays, then-asked, here, there, earlierOf, led, standing}
+use Rattle.hagerzhang_rules.specs.Iterations.{had, hadBy, InU3, AskedBecause, EndedBecause, inside}
+use Rattle.hagerzhang_rules.proofs.Iterations.{Fine, mostAt, Allowed, Asks, awaiting, ended, Arrives, stays}
+use Rattle.hagerzhang_rules.proofs.StaysBracket.{Frame, Sound, SoundCame, is-to, is-on, more, narrowed-sound}
 
 -- ---- a question: an answer that is not finite is refused, and the last
 asking-arrives : {s : Setup} {k : Report} (asked : List Point) (x : Float) (then : Point → Rest Report) → Fine s k

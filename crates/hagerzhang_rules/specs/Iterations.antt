@@ -103,7 +103,7 @@ pub record Opens (s : Setup) (asked : List Point) (q : Summary) : Type 0 where
 
 -- what a finished iteration leaves
 pub record Whole (s : Setup) (p : Summary) (asked : List Point) (q : Summary) : Type 0 where
-  -- its answers, and no others, lead 01's iteration on the former bracket to the new one
+  -- its answers, and no others, lead the rules' iteration on the former bracket to the new one
   pub whole : Plays (alone s (last p) (p .bracket)) asked (end (inr (q .bracket)))
   -- "the bracket meets the same three": where the former one does
   pub stays : premise (s .level) (p .bracket .a) (p .bracket .b) ≡ true
@@ -173,8 +173,8 @@ pub record InU3 (s : Setup) (k : Report) (asked : List Point) (h : Point) (k' d 
   pub steps-to : d ≡ middleOf (s .options .params .theta) h k'
 
 -- ---- why a step x is asked where k is reported, in the start or in the iteration that began there, which has asked
--- these points: it is finite; 01's start or iteration alone asks it there; in a start that grows it is the start step,
--- or 5 times the last; and in U3 it is strictly between the ends
+-- these points: it is finite; the rules' start or iteration alone asks it there; in a start that grows it is the start
+-- step, or 5 times the last; and in U3 it is strictly between the ends
 
 pub data AskedBecause (s : Setup) : Report → List Point → Float → Type 0 where
   of-bounds : {e : Bounds} {asked : List Point} {x : Float} {then : Float → Float → Alone}
@@ -209,7 +209,7 @@ pub data EndedBecause (s : Setup) : Report → List Point → Ending Why → Typ
   -- 2: the last answer
   not-finite : {k : Report} {d : Point} {asked : List Point}
       → answerFinite (d .f) (d .g) ≡ false → EndedBecause s k (d ∷ asked) (refusal (answerNotFinite (d .f) (d .g)))
-  -- 5: of a trial, which is 01's own there, of a start that grows, and in U3
+  -- 5: of a trial, which is the rules' own there, of a start that grows, and in U3
   trial-not-finite : {p : Summary} {asked : List Point} {u : Bracket} {x : Float}
       → standing s (last p) asked ≡ some (To u)
       → Plays (alone s (last p) (p .bracket)) asked (end (inl (stepNotFinite x)))

@@ -4,3 +4,5 @@ pub mod MarkedSums
 pub mod StartSums
 pub mod Brackets
 pub mod Iterations
+pub mod ZeroSlope
+pub mod EndSums

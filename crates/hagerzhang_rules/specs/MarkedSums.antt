@@ -1,13 +1,13 @@
 -- 01, "The twelve marked sums", about the rules of specs/Rules.antt and of the conditions: one list, as 01 writes it,
--- in a setup that 01 accepts. A sum holds for every value of what 01 leaves open in it. Proved as a single claim,
--- `marked-sums` (proofs/MarkedSums.antt).
+-- with M8 as 02's request 4 mends it; in a setup that 01 accepts. A sum holds for every value of what 01 leaves open in
+-- it. Proved as a single claim, `marked-sums` (proofs/MarkedSums.antt).
 use mathlib.Core.Path.{_≡_}
 use mathlib.Core.Bool.{Bool, true, false}
 use mathlib.Core.Logic.{_⊎_, inl, inr}
 use mathlib.Core.List.{List, [], _∷_}
 use mathlib.Core.Option.{some}
 use Prim.Native.Nat.{ℕ}
-use lib.Ieee.{Float, nan}
+use lib.Ieee.{Float}
 use Rattle.floats.specs.Numerals.{whole, quarters, minus}
 use Rattle.refusals.specs.Results.{Result, value, refuse_else_}
 use Rattle.runs.specs.Outcomes.{Why, numberFor}
@@ -22,8 +22,8 @@ use Rattle.hagerzhang_rules.specs.declared.Setup.{Setup}
 use Rattle.hagerzhang_rules.specs.declared.Further.the-variants.{Nothing, At}
 use Rattle.hagerzhang_rules.specs.declared.Came.the-variants.{To}
 use Rattle.hagerzhang_rules.specs.Parameters.{defaultOptions, optionsWith, setupOf, startRows}
-use Rattle.hagerzhang_rules.specs.Rules.{point, bracket, answerFinite, secantOf, updateOf, S2, S3, bestOf}
-use Rattle.hagerzhang_rules.specs.Rules.{update, iteration}
+use Rattle.hagerzhang_rules.specs.Rules.{point, bracket, answerFinite, secantOf, updateOf, S4, L2, bestOf, update}
+use Rattle.hagerzhang_rules.specs.Rules.{iteration}
 
 -- "epsilon = 0, L = 1, theta = 0.5, a = (0,1,-2), b = (4,9,6) unless said." The start has cost 1 and slope -2; B is the
 -- budget.
@@ -129,13 +129,13 @@ pub record MarkedSums : Type 0 where
   pub M7 :
       (steps (updated-with 2 steep) three ≡ whole 1 ∷ quarters 6 ∷ [])
       × (left (updated-with 2 steep) ((½, minus (whole 1)) ∷ (quarters 6, minus (whole 1)) ∷ []) ≡ refused 6)
-  -- "b = (1,0,0): S1 asks 1, unchanged; S2 gives 0/0, refusal 5"
+  -- "b = (1,0,0): S1 asks 1, unchanged"; no e, and 02, request 4: "M8 goes on to L2 and asks 0.5."
   pub M8 :
       (steps iterated [] ≡ whole 1 ∷ [])
       × ((f g : Float) → updateOf (whole 1) at-minimum (point (whole 1) f g) ≡ some (To at-minimum))
-      × (S2 at-minimum (whole 1) at-minimum ≡ At nan)
-      × (S3 at-minimum (whole 1) at-minimum ≡ Nothing)
-      × ((f g : Float) → answerFinite f g ≡ true → left iterated ((f, g) ∷ []) ≡ refused 5)
+      × (S4 at-minimum (whole 1) at-minimum ≡ Nothing)
+      × (L2 (setup 100 .options .params .gamma) at-minimum at-minimum ≡ At ½)
+      × ((f g : Float) → answerFinite f g ≡ true → steps iterated ((f, g) ∷ []) ≡ whole 1 ∷ ½ ∷ [])
   -- "costs 2,2,2: best c. Costs 2,2,3: best b", whatever the steps and slopes
   pub M9 :
       (x y z p q r : Float)

@@ -1,19 +1,19 @@
--- 01, "Hager-Zhang rules", and 02's request 3, "Start bracketing", line by line: each rule once, as a decision; then
--- the flow over them as a run of questions and answers. A point is (x, f, g): step, cost and slope. A bracket is (a,
--- b). L is the setup's level. The types are declared in src/lib.rt, with their cases: what an answer comes to is `To` a
--- bracket, or `On` in U3 with its ends h and k; a trial of a start that grows was `Enough`, with what it came to, or
--- `TooShort`; a further trial is `At` a step, or there is `Nothing`; a verdict `Holds`, or it `Fails`. The marked sums
--- M1 to M12 are said of this text in specs/MarkedSums.antt. specs/Brackets.antt and specs/Iterations.antt have the
--- words for what is proved of it along any answers.
+-- 01, "Hager-Zhang rules", with 02's requests 3, "Start bracketing", and 4, "Zero slope at an end", line by line: each
+-- rule once, as a decision; then the flow over them as a run of questions and answers. A point is (x, f, g): step, cost
+-- and slope. A bracket is (a, b). L is the setup's level. The types are declared in src/lib.rt, with their cases: what
+-- an answer comes to is `To` a bracket, or `On` in U3 with its ends h and k; a trial of a start that grows was
+-- `Enough`, with what it came to, or `TooShort`; a further trial is `At` a step, or there is `Nothing`; a verdict
+-- `Holds`, or it `Fails`. The marked sums M1 to M12 are said of this text in specs/MarkedSums.antt. specs/Brackets.antt
+-- and specs/Iterations.antt have the words for what is proved of it along any answers.
 use Prim.Native.Nat.{ℕ, zero, suc, _+_}
-use mathlib.Core.Bool.{Bool, cond, _&&_, _||_}
+use mathlib.Core.Bool.{Bool, cond, not, _&&_, _||_}
 use mathlib.Core.Option.{Option, some, none}
 use lib.Ieee.{Float, binary64, ofBits}
 use lib.Ieee.Scale.{finite}
-use Rattle.floats.specs.Arithmetic.{_⊕_, _⊖_, _⊗_, _⊘_, _<ᶠ_, _≤ᶠ_, _>ᶠ_, _≥ᶠ_, 0ᶠ, 1ᶠ, 2ᶠ, 5ᶠ}
+use Rattle.floats.specs.Arithmetic.{_⊕_, _⊖_, _⊗_, _⊘_, _<ᶠ_, _≤ᶠ_, _>ᶠ_, _≥ᶠ_, _=ᶠ_, 0ᶠ, 1ᶠ, 2ᶠ, 5ᶠ}
 use Rattle.numbers.specs.Numbers.{absOf}
-use Rattle.runs.specs.Outcomes.{verdictWord, stop, limit, Why, stepNotFinite, budgetSpent, stepNotBetween}
-use Rattle.runs.specs.Outcomes.{growthsSpent, unreachable}
+use Rattle.runs.specs.Outcomes.{verdictWord, stop, limit, Why, stepNotFinite, budgetSpent, stepNotBetween, growthsSpent}
+use Rattle.runs.specs.Outcomes.{unreachable}
 use Rattle.runs.specs.Asking.{Run, end, Rest, endWith, keeping, question}
 use Rattle.runs.specs.declared.Verdict.the-variants.{Wolfe, Approximate}
 use Rattle.hagerzhang_rules.specs.declared.Point.{Point}
@@ -109,16 +109,25 @@ abbrev pub orElse : Further → Further → Further
 orElse (At x) d = At x
 orElse Nothing d = d
 
--- "S2: if |c.x - Z.x| < EPS, e = secant(b, Z)."
-unfoldable pub S2 : Bracket → Float → Bracket → Further
-S2 w cx u = when (isNear cx (u .b .x)) (secantOf (w .b) (u .b))
+-- 02, request 4: "equal steps", as numbers, so that both zeros are equal
+abbrev pub sameStep : Point → Point → Bool
+sameStep p q = p .x =ᶠ q .x
 
--- "S3: if |c.x - A.x| < EPS, e = secant(a, A), overwriting S2's."
-unfoldable pub S3 : Bracket → Float → Bracket → Further
-S3 w cx u = when (isNear cx (u .a .x)) (secantOf (w .a) (u .a))
+-- a rule that may give e
+abbrev pub Giving : Type 0
+Giving = Bracket → Float → Bracket → Further
 
--- "S4: if either held, ask e and update (A, Z) with it." "In S2 and S3 only the final e is tested for refusal 5."
-abbrev pub S4 : Bracket → Float → Bracket → Further
+-- "S2: if |c.x - Z.x| < EPS, e = secant(b, Z)." 02, request 4: "S2 gives no e when b and Z have equal steps"
+unfoldable pub S2 : Giving
+S2 w cx u = when (isNear cx (u .b .x) && not (sameStep (w .b) (u .b))) (secantOf (w .b) (u .b))
+
+-- "S3: if |c.x - A.x| < EPS, e = secant(a, A), overwriting S2's." 02, request 4: "and S3 none when a and A have"
+unfoldable pub S3 : Giving
+S3 w cx u = when (isNear cx (u .a .x) && not (sameStep (w .a) (u .a))) (secantOf (w .a) (u .a))
+
+-- "S4: if either held, ask e and update (A, Z) with it.", and 02, request 4, in place of "if either held": "An earlier
+-- e then stays. S4 runs only if some e was given." "In S2 and S3 only the final e is tested for refusal 5."
+abbrev pub S4 : Giving
 S4 w cx u = orElse (S3 w cx u) (S2 w cx u)
 
 -- "L2: if Z.x - A.x > gamma*(b.x - a.x), ask (A.x + Z.x)/2 and update."
@@ -199,16 +208,20 @@ module _ {K R : Type 0} (s : Setup) (refuse : Why → R) (kept : K) where
   unfoldable pub afterS4 : Bracket → Bracket → (Bracket → Run K R) → Run K R
   afterS4 w v then = further (L2 (s .options .params .gamma) w v) v then
 
-  -- S4 after S1, at the step cx, came to u
-  unfoldable pub afterS1 : Bracket → Float → Bracket → (Bracket → Run K R) → Run K R
-  afterS1 w cx u then = further (S4 w cx u) u λ v. afterS4 w v then
+  -- S4, if an e was given, after S1 came to u
+  unfoldable pub afterS1 : Further → Bracket → Bracket → (Bracket → Run K R) → Run K R
+  afterS1 e w u then = further e u λ v. afterS4 w v then
 
-  -- "S1: c.x = secant(a, b), ask, update to (A, Z)"
-  unfoldable pub iteration : Bracket → (Bracket → Run K R) → Run K R
-  iteration w then =
+  -- "S1: c.x = secant(a, b), ask, update to (A, Z)". `given` is the rule that gives e: S4 by request 4, or the former
+  -- one in specs/ZeroSlope.antt
+  unfoldable pub iterationBy : Giving → Bracket → (Bracket → Run K R) → Run K R
+  iterationBy given w then =
       trial (secantOf (w .a) (w .b)) λ c.
       update w c λ u.
-      afterS1 w (c .x) u then
+      afterS1 (given w (c .x) u) w u then
+
+  abbrev pub iteration : Bracket → (Bracket → Run K R) → Run K R
+  iteration = iterationBy S4
 
   -- ---- the start, which comes to c and a bracket: `then` has both
 
@@ -278,16 +291,22 @@ module _ (s : Setup) where
 
   -- "After an iteration the verdict is tested first, then the limit; only then is the next step worked out .." n
   -- iterations may still be begun.
-  unfoldable pub rounds : ℕ → Bracket → Point → ℕ → Rest Report
-  rounds zero w start i =
+  unfoldable pub roundsBy : Giving → ℕ → Bracket → Point → ℕ → Rest Report
+  roundsBy given zero w start i =
       let best = bestOf (w .a) (w .b) start in
       verdict w start i (endWith (reportOf w start i) (limit (best .x)))
-  rounds (suc n) w start i =
+  roundsBy given (suc n) w start i =
       let kept = reportOf w start i in
-      verdict w start i (iteration s (keeping kept) kept w λ v. rounds n v start (i + 1))
+      verdict w start i (iterationBy s (keeping kept) kept given w λ v. roundsBy given n v start (i + 1))
+
+  abbrev pub rounds : ℕ → Bracket → Point → ℕ → Rest Report
+  rounds = roundsBy S4
 
   -- the whole search: the start, while nothing is reported yet; "Then best, then verdict", and the iterations
-  unfoldable pub hagerZhang : Rest Report
-  hagerZhang =
+  unfoldable pub hagerZhangBy : Giving → Rest Report
+  hagerZhangBy given =
       starting s (keeping noneYet) noneYet (s .options .way) λ c w.
-      rounds (s .options .limit) w c 0
+      roundsBy given (s .options .limit) w c 0
+
+  abbrev pub hagerZhang : Rest Report
+  hagerZhang = hagerZhangBy S4

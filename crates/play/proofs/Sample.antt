@@ -16,7 +16,8 @@ use Rattle.hagerzhang_rules.specs.declared.Bracket.{Bracket}
 use Rattle.hagerzhang_rules.specs.declared.Way.the-variants.{Bounded}
 use Rattle.hagerzhang_rules.specs.Parameters.{bounds, defaultOptions, optionsWith}
 use Rattle.hagerzhang_rules.specs.Rules.{point, bracket, answerFinite, Report, noneYet, iterationsIn, bestOver, judgeOf}
-use Rattle.hagerzhang_rules.specs.Rules.{decided, verdict, rounds, askStart, askHigh, starting, hagerZhang}
+use Rattle.hagerzhang_rules.specs.Rules.{decided, verdict, rounds, roundsBy, askStart, askHigh, starting, hagerZhang}
+use Rattle.hagerzhang_rules.specs.Rules.{hagerZhangBy}
 use Rattle.curves.specs.declared.Curve.{Curve}
 use Rattle.curves.specs.Curves.{table, valueOf, slopeOf}
 use Rattle.text.specs.Text.{bytes}
@@ -120,7 +121,7 @@ abbrev from-start : Rest Report
 from-start = askStart (setupFor j) (keeping noneYet) noneYet (bracket low high) goes-on
 
 at-low : telling over 0 (hagerZhang (setupFor j)) ≡ says-at (asks zero) 0 ∷ telling over 1 from-high
-unfolding hagerZhang starting table add mul ofInt ofBits
+unfolding hagerZhangBy starting table add mul ofInt ofBits
 at-low = asked over 0 noneYet zero _ one -two refl refl refl
 
 at-high : telling over 1 from-high ≡ says-at (asks four) 1 ∷ telling over 2 from-start
@@ -132,7 +133,7 @@ unfolding askStart table add mul ofInt ofBits
 at-start = asked over 2 noneYet one _ zero zero refl refl refl
 
 at-end : telling over 3 (goes-on start (bracket low high)) ≡ says-at (ends (stop wolfe one)) 3 ∷ []
-unfolding telling rounds verdict decided judgeOf bestOver table add sub mul neg le lt ofInt ofBits
+unfolding telling roundsBy verdict decided judgeOf bestOver table add sub mul neg le lt ofInt ofBits
 at-end = refl
 
 abbrev fourSaid : List Said
