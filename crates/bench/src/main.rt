@@ -8,7 +8,6 @@ use hagerzhang::Kept;
 use hagerzhang::Search;
 use hagerzhang::Stage;
 use hagerzhang::Started;
-use hagerzhang_decisions::parameters;
 use hagerzhang_rules::Bounds;
 use hagerzhang_rules::Options;
 use hagerzhang_rules::Params;
@@ -24,7 +23,7 @@ struct Tally {
 }
 
 fn chosen() -> Options {
-    let d = parameters::defaults();
+    let d = hagerzhang_parameters::defaults();
     let p = d.params;
     Options {
         params: Params {

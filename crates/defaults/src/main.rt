@@ -2,7 +2,6 @@
 // is its 64 bits.
 
 use conditions::Condition;
-use hagerzhang_decisions::parameters;
 use hagerzhang_rules::Options;
 use hagerzhang_rules::Params;
 use hagerzhang_rules::Way;
@@ -39,7 +38,7 @@ fn steps(out: &mut [u8], at: usize, o: Options) -> usize {
 }
 
 fn hager_zhang(out: &mut [u8], at: usize) -> usize {
-    let o = parameters::defaults();
+    let o = hagerzhang_parameters::defaults();
     let p = o.params;
     let a = verdict(out, at, p);
     let b = bracket(out, a, p);

@@ -2,7 +2,6 @@
 // and every outcome is printed as a line. The second plant has a dead sensor: the search says so, and does not go on.
 use hagerzhang::Started;
 use hagerzhang::Turn;
-use hagerzhang_decisions::parameters;
 use hagerzhang_rules::Bounds;
 use hagerzhang_rules::Options;
 use hagerzhang_rules::Way;
@@ -36,7 +35,7 @@ fn slope(p: Plant, x: f64) -> f64 {
 
 // The defaults, with the flows between which the plant may run, and no flow as the first guess.
 fn options() -> Options {
-    let d = parameters::defaults();
+    let d = hagerzhang_parameters::defaults();
     let mut params = d.params;
     params.start = 0.0;
     Options {

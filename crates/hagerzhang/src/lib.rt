@@ -8,7 +8,6 @@ use crate::state::Next;
 use crate::state::asks;
 use crate::state::ended;
 use crate::state::turned;
-use hagerzhang_decisions::parameters;
 use hagerzhang_rules::Options;
 use hagerzhang_rules::Setup;
 use refusals::Refusal;
@@ -64,14 +63,14 @@ pub fn start(o: Options, f0: f64, s0: f64) -> Started
     ensures exact { λ r. ⌜ StartSaid o f0 s0 r ⌝ }
     ensures rules { λ r. ⌜ Starts o f0 s0 r ⌝ }
 {
-    if !parameters::supplied_finite(o, f0, s0) {
+    if !hagerzhang_parameters::supplied_finite(o, f0, s0) {
         return Started::NoSearch(Refusal::SuppliedNotFinite);
     }
-    if !parameters::in_ranges(o) {
+    if !hagerzhang_parameters::in_ranges(o) {
         return Started::NoSearch(Refusal::OutOfRange);
     }
     let way = o.way;
-    if parameters::not_downhill(way, s0) {
+    if hagerzhang_parameters::not_downhill(way, s0) {
         return Started::NoSearch(Refusal::NotDownhill);
     }
     let epsilon_k = o.params.epsilon * numbers::abs(f0);

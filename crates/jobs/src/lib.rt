@@ -6,7 +6,6 @@ use curves::Known;
 use fields::Heading;
 use hagerzhang::Started;
 use hagerzhang::Turn;
-use hagerzhang_decisions::parameters;
 use hagerzhang_rules::Bounds;
 use hagerzhang_rules::Options;
 use hagerzhang_rules::Params;
@@ -121,7 +120,7 @@ fn options(
 ) -> Options
     ensures { λ r. ⌜ r ≡ optionsAt (now (job .entry)) bounds start epsilon budget limit ⌝ }
 {
-    let d = parameters::defaults();
+    let d = hagerzhang_parameters::defaults();
     let p = d.params;
     let three_answers = d.way;
     let begins = way(job, bounds, three_answers);
@@ -193,7 +192,7 @@ fn begun_by(j: Job) -> Opened
     ensures { λ r. ⌜ openedTold r ≡ begunBy (value j) ⌝ }
 {
     let o = j.options;
-    if !parameters::options_finite(o) {
+    if !hagerzhang_parameters::options_finite(o) {
         return Opened::NoSearch(Refusal::SuppliedNotFinite);
     }
     match curves::numbered(j.curve) {

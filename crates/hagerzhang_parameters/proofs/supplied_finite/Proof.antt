@@ -1,6 +1,6 @@
--- `hagerzhang_decisions::parameters::supplied_finite` meets its contract. Assumes nothing.
-use Rattle.hagerzhang_decisions.proofs.parameters.supplied_finite.Statement.{statement}
-use Rattle.hagerzhang_decisions.proofs.parameters.supplied_finite.Tie as tie
+-- `hagerzhang_parameters::supplied_finite` meets its contract. Assumes nothing.
+use Rattle.hagerzhang_parameters.proofs.supplied_finite.Statement.{statement}
+use Rattle.hagerzhang_parameters.proofs.supplied_finite.Tie as tie
 
 returns : tie.Need-returns
 returns c = rw (c .is-finite2 .ensures, c .before .is-finite .ensures, c .before .before .options-finite .ensures)

@@ -1,7 +1,7 @@
--- `hagerzhang_decisions::parameters::not_downhill` meets its contract. Assumes nothing.
+-- `hagerzhang_parameters::not_downhill` meets its contract. Assumes nothing.
 use borrow.Author.Needs.{needs}
-use Rattle.hagerzhang_decisions.proofs.parameters.not_downhill.Statement.{statement}
-use Rattle.hagerzhang_decisions.proofs.parameters.not_downhill.Tie as tie
+use Rattle.hagerzhang_parameters.proofs.not_downhill.Statement.{statement}
+use Rattle.hagerzhang_parameters.proofs.not_downhill.Tie as tie
 
 returns-2 : tie.Need-returns-2
 returns-2 c = rw (c .enum-told2 .given .1)

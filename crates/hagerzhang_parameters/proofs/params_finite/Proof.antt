@@ -1,6 +1,6 @@
--- `hagerzhang_decisions::parameters::params_finite` meets its contract. Assumes nothing.
-use Rattle.hagerzhang_decisions.proofs.parameters.params_finite.Statement.{statement}
-use Rattle.hagerzhang_decisions.proofs.parameters.params_finite.Tie as tie
+-- `hagerzhang_parameters::params_finite` meets its contract. Assumes nothing.
+use Rattle.hagerzhang_parameters.proofs.params_finite.Statement.{statement}
+use Rattle.hagerzhang_parameters.proofs.params_finite.Tie as tie
 
 returns : tie.Need-returns
 returns c =

@@ -1,7 +1,7 @@
--- `hagerzhang_decisions::parameters::way_in_range` meets its contract. Assumes nothing.
+-- `hagerzhang_parameters::way_in_range` meets its contract. Assumes nothing.
 use borrow.Author.Needs.{needs}
-use Rattle.hagerzhang_decisions.proofs.parameters.way_in_range.Statement.{statement}
-use Rattle.hagerzhang_decisions.proofs.parameters.way_in_range.Tie as tie
+use Rattle.hagerzhang_parameters.proofs.way_in_range.Statement.{statement}
+use Rattle.hagerzhang_parameters.proofs.way_in_range.Tie as tie
 
 returns : tie.Need-returns
 returns c = rw (c .before .before .before .way .given .1)

@@ -1,7 +1,7 @@
--- `hagerzhang_decisions::parameters::way_finite` meets its contract. Assumes nothing.
+-- `hagerzhang_parameters::way_finite` meets its contract. Assumes nothing.
 use borrow.Author.Needs.{needs}
-use Rattle.hagerzhang_decisions.proofs.parameters.way_finite.Statement.{statement}
-use Rattle.hagerzhang_decisions.proofs.parameters.way_finite.Tie as tie
+use Rattle.hagerzhang_parameters.proofs.way_finite.Statement.{statement}
+use Rattle.hagerzhang_parameters.proofs.way_finite.Tie as tie
 
 returns : tie.Need-returns
 returns c = rw (c .both-finite .ensures, c .before .before .way .given .1)

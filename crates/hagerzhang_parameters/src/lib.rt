@@ -1,5 +1,5 @@
 // 01's "Parameters" of Hager-Zhang: the defaults, and the tests of a start for refusals 2 and 3; and what 02's request
-// 3 adds to them, with refusal 10.
+// 3 adds to them, with refusal 10. The types and the rules' text are hagerzhang_rules'.
 
 use hagerzhang_rules::Bounds;
 use hagerzhang_rules::EPS;
