@@ -23,8 +23,8 @@ use Rattle.hagerzhang_rules.specs.Iterations.{progress, mostInStart, mostInIter
 use Rattle.hagerzhang_rules.proofs.UnderWay.{noted, kept, under-way, finished-by}
 use Rattle.hagerzhang_rules.proofs.Ranges.{Accepted, ever, limit-fits, level-finite, most-answers}
 use Rattle.hagerzhang_rules.proofs.EndsInTime.{search-within}
-use Rattle.hagerzhang.specs.declared.state.Stage.{Stage}
-use Rattle.hagerzhang.specs.declared.state.Stage.the-variants.{Open, Over}
+use Rattle.hagerzhang_steps.specs.declared.state.Stage.{Stage}
+use Rattle.hagerzhang_steps.specs.declared.state.Stage.the-variants.{Open, Over}
 use Rattle.hagerzhang.specs.declared.state.Search.{Search}
 use Rattle.hagerzhang.specs.declared.state.Turn.{Turn}
 use Rattle.hagerzhang.specs.Machine.{awaitedOf, answerOf, freshOf}

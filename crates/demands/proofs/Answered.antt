@@ -12,9 +12,9 @@ use Rattle.runs.specs.Counters.{evaluations}
 use Rattle.runs.proofs.Apart.{asks-not-ends}
 use Rattle.runs.specs.declared.Outcome.{Outcome}
 use Rattle.hagerzhang_rules.specs.Rules.{answerFinite}
-use Rattle.hagerzhang.specs.declared.state.Waiting.{Waiting}
-use Rattle.hagerzhang.specs.declared.state.Stage.{Stage}
-use Rattle.hagerzhang.specs.declared.state.Stage.the-variants.{Open, Over}
+use Rattle.hagerzhang_steps.specs.declared.state.Waiting.{Waiting}
+use Rattle.hagerzhang_steps.specs.declared.state.Stage.{Stage}
+use Rattle.hagerzhang_steps.specs.declared.state.Stage.the-variants.{Open, Over}
 use Rattle.hagerzhang.specs.declared.state.Search.{Search}
 use Rattle.hagerzhang.specs.declared.state.Turn.{Turn}
 use Rattle.hagerzhang.specs.Machine.{heldAt, takenOf, answerBy, AnswerSaid}

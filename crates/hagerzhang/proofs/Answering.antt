@@ -24,31 +24,33 @@ use Rattle.hagerzhang_rules.specs.declared.Came.the-variants.{To, On}
 use Rattle.hagerzhang_rules.specs.declared.Grown.{Grown}
 use Rattle.hagerzhang_rules.specs.declared.Grown.the-variants.{Enough, TooShort}
 use Rattle.hagerzhang_rules.specs.Rules.{answerFinite, middleOf, longerOf}
-use Rattle.hagerzhang.specs.declared.state.Finished.{Finished}
-use Rattle.hagerzhang.specs.declared.moves.Move.{Move}
-use Rattle.hagerzhang.specs.declared.moves.Move.the-variants.{Try, Narrow, ByVerdict, ByLimit}
-use Rattle.hagerzhang.specs.declared.moves.Probed.{Probed}
-use Rattle.hagerzhang.specs.declared.moves.Probed.the-variants.{Passes, Barred}
-use Rattle.hagerzhang.specs.declared.opening.Opened.{Opened}
-use Rattle.hagerzhang.specs.declared.iteration.Then.{Then}
-use Rattle.hagerzhang.specs.declared.iteration.Then.the-variants.{Go, Close}
-use Rattle.hagerzhang.specs.declared.state.Narrowing.{Narrowing}
-use Rattle.hagerzhang.specs.declared.state.Kept.{Kept}
+use Rattle.hagerzhang_steps.specs.declared.state.Finished.{Finished}
+use Rattle.hagerzhang_steps.specs.declared.moves.Move.{Move}
+use Rattle.hagerzhang_steps.specs.declared.moves.Move.the-variants.{Try, Narrow, ByVerdict, ByLimit}
+use Rattle.hagerzhang_steps.specs.declared.moves.Probed.{Probed}
+use Rattle.hagerzhang_steps.specs.declared.moves.Probed.the-variants.{Passes, Barred}
+use Rattle.hagerzhang_steps.specs.declared.opening.Opened.{Opened}
+use Rattle.hagerzhang_steps.specs.declared.iteration.Then.{Then}
+use Rattle.hagerzhang_steps.specs.declared.iteration.Then.the-variants.{Go, Close}
+use Rattle.hagerzhang_steps.specs.declared.state.Narrowing.{Narrowing}
+use Rattle.hagerzhang_steps.specs.declared.state.Kept.{Kept}
 use Rattle.hagerzhang.specs.declared.state.Due.{Due}
-use Rattle.hagerzhang.specs.declared.state.Waiting.{Waiting}
-use Rattle.hagerzhang.specs.declared.state.Opening.{Opening}
-use Rattle.hagerzhang.specs.declared.state.Opening.the-variants.{Low, High, StartStep, First, Later, Inside}
-use Rattle.hagerzhang.specs.declared.state.Waiting.the-variants.{Starting, Running}
-use Rattle.hagerzhang.specs.declared.state.Stage.{Stage}
-use Rattle.hagerzhang.specs.declared.state.Stage.the-variants.{Open, Over}
-use Rattle.hagerzhang.specs.declared.state.Next.{Next}
+use Rattle.hagerzhang_steps.specs.declared.state.Waiting.{Waiting}
+use Rattle.hagerzhang_steps.specs.declared.state.Opening.{Opening}
+use Rattle.hagerzhang_steps.specs.declared.state.Opening.the-variants.{Low, High, StartStep, First, Later, Inside}
+use Rattle.hagerzhang_steps.specs.declared.state.Waiting.the-variants.{Starting, Running}
+use Rattle.hagerzhang_steps.specs.declared.state.Stage.{Stage}
+use Rattle.hagerzhang_steps.specs.declared.state.Stage.the-variants.{Open, Over}
+use Rattle.hagerzhang_steps.specs.declared.state.Next.{Next}
 use Rattle.hagerzhang.specs.declared.state.Search.{Search}
 use Rattle.hagerzhang.specs.declared.state.Turn.{Turn}
-use Rattle.hagerzhang.specs.Moves.{attemptOf, probeOf, narrowBy, testOf, madeBy, madeOf}
-use Rattle.hagerzhang.specs.Iteration.{wentOf}
-use Rattle.hagerzhang.specs.Opening.{insideOf, arrivedOf, stretchOf, grewBy, opensOf}
-use Rattle.hagerzhang.specs.Machine.{startsOf, reactOf, heldAt, heldOf, awaitedAt, awaitedOf, takenOf, answerBy}
-use Rattle.hagerzhang.specs.Meaning.{keptReport, dueTold, OfTheStep, not-refused, six, eleven, five, seven}
+use Rattle.hagerzhang_steps.specs.Moves.{attemptOf, probeOf, narrowBy, testOf, madeBy, madeOf}
+use Rattle.hagerzhang_steps.specs.Iteration.{wentOf}
+use Rattle.hagerzhang_steps.specs.Opening.{insideOf, arrivedOf, stretchOf, grewBy, opensOf}
+use Rattle.hagerzhang_steps.specs.Steps.{startsOf, reactOf}
+use Rattle.hagerzhang.specs.Machine.{heldAt, heldOf, awaitedAt, awaitedOf, takenOf, answerBy}
+use Rattle.hagerzhang_steps.specs.Reports.{keptReport}
+use Rattle.hagerzhang.specs.Meaning.{dueTold, OfTheStep, not-refused, six, eleven, five, seven}
 use Rattle.hagerzhang.specs.Meaning.{meaning, meant}
 
 pub setup-kept : (b : Search) (f g : Float) (stage : Stage) → answerBy b f g stage .search .setup ≡ b .setup

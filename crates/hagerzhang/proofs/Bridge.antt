@@ -21,8 +21,8 @@ use Rattle.runs.proofs.Machines.{Seen, seen, counts-on}
 use Rattle.runs.proofs.Begins as starting
 use Rattle.runs.specs.declared.Evaluations.{Evaluations}
 use Rattle.floats.proofs.Branches.{by-cases, by-cases₂, and-first, and-second}
-use Rattle.hagerzhang.specs.declared.state.Asked.{Asked}
-use Rattle.hagerzhang.specs.declared.state.Asked.the-variants.{Update, Between}
+use Rattle.hagerzhang_steps.specs.declared.state.Asked.{Asked}
+use Rattle.hagerzhang_steps.specs.declared.state.Asked.the-variants.{Update, Between}
 use Rattle.hagerzhang_rules.specs.declared.Point.{Point}
 use Rattle.hagerzhang_rules.specs.declared.Bracket.{Bracket}
 use Rattle.hagerzhang_rules.specs.declared.Way.{Way}
@@ -37,24 +37,24 @@ use Rattle.hagerzhang_rules.specs.declared.Further.{Further}
 use Rattle.hagerzhang_rules.specs.declared.Further.the-variants.{Nothing, At}
 use Rattle.hagerzhang_rules.specs.declared.Judged.{Judged}
 use Rattle.hagerzhang_rules.specs.declared.Judged.the-variants.{Holds, Fails}
-use Rattle.hagerzhang.specs.declared.state.Finished.{Finished}
-use Rattle.hagerzhang.specs.declared.state.Rule.{Rule}
-use Rattle.hagerzhang.specs.declared.state.Rule.the-variants.{S1 as ByS1, S4 as ByS4, L2 as ByL2}
-use Rattle.hagerzhang.specs.declared.state.Trial.{Trial}
-use Rattle.hagerzhang.specs.declared.state.Waiting.{Waiting}
-use Rattle.hagerzhang.specs.declared.state.Opening.{Opening}
-use Rattle.hagerzhang.specs.declared.state.Opening.the-variants.{Low, High, StartStep, First, Later, Inside}
-use Rattle.hagerzhang.specs.declared.state.Waiting.the-variants.{Starting, Running}
-use Rattle.hagerzhang.specs.declared.state.Stage.{Stage}
-use Rattle.hagerzhang.specs.declared.state.Stage.the-variants.{Open, Over}
-use Rattle.hagerzhang.specs.declared.moves.Move.{Move}
-use Rattle.hagerzhang.specs.declared.moves.Move.the-variants.{ByLimit}
-use Rattle.hagerzhang.specs.declared.moves.Probed.{Probed}
-use Rattle.hagerzhang.specs.declared.moves.Probed.the-variants.{Passes, Barred}
-use Rattle.hagerzhang.specs.declared.moves.Tested.{Tested}
-use Rattle.hagerzhang.specs.declared.iteration.Then.{Then}
-use Rattle.hagerzhang.specs.declared.iteration.Then.the-variants.{Close}
-use Rattle.hagerzhang.specs.declared.state.Next.{Next}
+use Rattle.hagerzhang_steps.specs.declared.state.Finished.{Finished}
+use Rattle.hagerzhang_steps.specs.declared.state.Rule.{Rule}
+use Rattle.hagerzhang_steps.specs.declared.state.Rule.the-variants.{S1 as ByS1, S4 as ByS4, L2 as ByL2}
+use Rattle.hagerzhang_steps.specs.declared.state.Trial.{Trial}
+use Rattle.hagerzhang_steps.specs.declared.state.Waiting.{Waiting}
+use Rattle.hagerzhang_steps.specs.declared.state.Opening.{Opening}
+use Rattle.hagerzhang_steps.specs.declared.state.Opening.the-variants.{Low, High, StartStep, First, Later, Inside}
+use Rattle.hagerzhang_steps.specs.declared.state.Waiting.the-variants.{Starting, Running}
+use Rattle.hagerzhang_steps.specs.declared.state.Stage.{Stage}
+use Rattle.hagerzhang_steps.specs.declared.state.Stage.the-variants.{Open, Over}
+use Rattle.hagerzhang_steps.specs.declared.moves.Move.{Move}
+use Rattle.hagerzhang_steps.specs.declared.moves.Move.the-variants.{ByLimit}
+use Rattle.hagerzhang_steps.specs.declared.moves.Probed.{Probed}
+use Rattle.hagerzhang_steps.specs.declared.moves.Probed.the-variants.{Passes, Barred}
+use Rattle.hagerzhang_steps.specs.declared.moves.Tested.{Tested}
+use Rattle.hagerzhang_steps.specs.declared.iteration.Then.{Then}
+use Rattle.hagerzhang_steps.specs.declared.iteration.Then.the-variants.{Close}
+use Rattle.hagerzhang_steps.specs.declared.state.Next.{Next}
 use Rattle.hagerzhang.specs.declared.state.Search.{Search}
 use Rattle.hagerzhang.specs.declared.state.Turn.{Turn}
 use Rattle.hagerzhang.specs.declared.state.Started.{Started}
@@ -66,16 +66,18 @@ use Rattle.hagerzhang_rules.specs.Rules.{afterS1, iteration, iterationBy, askSt
 use Rattle.hagerzhang_rules.specs.Rules.{starting as starts-by, Report, noneYet, reportOf, decided, verdict, rounds}
 use Rattle.hagerzhang_rules.specs.Rules.{roundsBy, hagerZhang, hagerZhangBy}
 use Rattle.hagerzhang_decisions.proofs.Decides.{decides}
-use Rattle.hagerzhang.specs.State.{narrowing}
-use Rattle.hagerzhang.specs.Moves.{triesOf, finishedOf, attemptOf, probeOf, narrowBy, testOf, madeBy, outlookBy}
-use Rattle.hagerzhang.specs.Moves.{madeOf, settledOf}
-use Rattle.hagerzhang.specs.Opening.{firstBy, firstOf as openingOf, insideOf, arrivedOf, stretchOf, grewBy}
-use Rattle.hagerzhang.specs.Opening.{opensOf}
-use Rattle.hagerzhang.specs.Iteration.{comesOf, leftOf, triedBy, afterS4Of, afterS1Of, followBy, onwardOf, wentOf}
-use Rattle.hagerzhang.specs.Iteration.{runningOf}
-use Rattle.hagerzhang.specs.Machine.{startsOf, reactOf, keepsOf, stepAsked, openingStep, stepDue, takenOf}
+use Rattle.hagerzhang_steps.specs.State.{narrowing}
+use Rattle.hagerzhang_steps.specs.Moves.{triesOf, finishedOf, attemptOf, probeOf, narrowBy, testOf, madeBy, outlookBy}
+use Rattle.hagerzhang_steps.specs.Moves.{madeOf, settledOf}
+use Rattle.hagerzhang_steps.specs.Opening.{firstBy, firstOf as openingOf, insideOf, arrivedOf, stretchOf, grewBy}
+use Rattle.hagerzhang_steps.specs.Opening.{opensOf}
+use Rattle.hagerzhang_steps.specs.Iteration.{comesOf, leftOf, triedBy, afterS4Of, afterS1Of, followBy, onwardOf, wentOf}
+use Rattle.hagerzhang_steps.specs.Iteration.{runningOf}
+use Rattle.hagerzhang_steps.specs.Steps.{startsOf, reactOf}
+use Rattle.hagerzhang.specs.Machine.{keepsOf, stepAsked, openingStep, stepDue, takenOf}
 use Rattle.hagerzhang.specs.Machine.{answerBy, answerOf, freshOf, startOf, StartSaid, AnswerSaid}
-use Rattle.hagerzhang.specs.Meaning.{lastOf, keptReport, closed, afterTrial, onAsked, begins as begins-with}
+use Rattle.hagerzhang_steps.specs.Reports.{lastOf, keptReport}
+use Rattle.hagerzhang.specs.Meaning.{closed, afterTrial, onAsked, begins as begins-with}
 use Rattle.hagerzhang.specs.Meaning.{onOpening, onAnswer, meaning, meant, begun, Starts, Follows}
 
 denote : Setup → Next → Seen Report

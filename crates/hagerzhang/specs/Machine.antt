@@ -10,47 +10,36 @@ use Rattle.refusals.specs.Refusals.{numberOf}
 use Rattle.runs.specs.declared.Evaluations.{Evaluations}
 use Rattle.runs.specs.declared.Outcome.the-variants.{Refused}
 use Rattle.refusals.specs.declared.Refusal.the-variants.{SuppliedNotFinite, AlreadyOver}
-use Rattle.runs.specs.Counters.{oneMore, evaluations, iterations}
+use Rattle.runs.specs.Counters.{oneMore, evaluations}
 use Rattle.hagerzhang_rules.specs.declared.Options.{Options}
 use Rattle.hagerzhang_rules.specs.declared.Setup.{Setup}
-use Rattle.hagerzhang.specs.declared.state.Kept.{Kept}
-use Rattle.hagerzhang.specs.declared.state.Kept.the-variants.{NoneYet, Last}
-use Rattle.hagerzhang.specs.declared.state.Trial.{Trial}
-use Rattle.hagerzhang.specs.declared.state.Asked.{Asked}
-use Rattle.hagerzhang.specs.declared.state.Asked.the-variants.{Update, Between}
+use Rattle.hagerzhang_steps.specs.declared.state.Kept.{Kept}
+use Rattle.hagerzhang_steps.specs.declared.state.Kept.the-variants.{NoneYet, Last}
+use Rattle.hagerzhang_steps.specs.declared.state.Trial.{Trial}
+use Rattle.hagerzhang_steps.specs.declared.state.Asked.{Asked}
+use Rattle.hagerzhang_steps.specs.declared.state.Asked.the-variants.{Update, Between}
 use Rattle.hagerzhang.specs.declared.state.Due.{Due}
 use Rattle.hagerzhang.specs.declared.state.Due.the-variants.{Awaited, NothingDue}
-use Rattle.hagerzhang.specs.declared.state.Waiting.{Waiting}
-use Rattle.hagerzhang.specs.declared.state.Opening.{Opening}
-use Rattle.hagerzhang.specs.declared.state.Opening.the-variants.{Low, High, StartStep, First, Later, Inside}
-use Rattle.hagerzhang.specs.declared.state.Waiting.the-variants.{Starting, Running}
-use Rattle.hagerzhang.specs.declared.state.Stage.{Stage}
-use Rattle.hagerzhang.specs.declared.state.Stage.the-variants.{Open, Over}
-use Rattle.hagerzhang.specs.declared.state.Next.{Next}
-use Rattle.hagerzhang.specs.declared.opening.Opened.{Opened}
-use Rattle.hagerzhang.specs.declared.opening.Opened.the-variants.{More, Done, Not}
+use Rattle.hagerzhang_steps.specs.declared.state.Waiting.{Waiting}
+use Rattle.hagerzhang_steps.specs.declared.state.Opening.{Opening}
+use Rattle.hagerzhang_steps.specs.declared.state.Opening.the-variants.{Low, High, StartStep, First, Later, Inside}
+use Rattle.hagerzhang_steps.specs.declared.state.Waiting.the-variants.{Starting, Running}
+use Rattle.hagerzhang_steps.specs.declared.state.Stage.{Stage}
+use Rattle.hagerzhang_steps.specs.declared.state.Stage.the-variants.{Open, Over}
+use Rattle.hagerzhang_steps.specs.declared.state.Next.{Next}
 use Rattle.hagerzhang.specs.declared.state.Search.{Search}
 use Rattle.hagerzhang.specs.declared.state.Turn.{Turn}
 use Rattle.hagerzhang.specs.declared.state.Started.{Started}
 use Rattle.hagerzhang.specs.declared.state.Started.the-variants.{Began, NoSearch}
 use Rattle.hagerzhang_rules.specs.Parameters.{setupOf, startRows}
 use Rattle.hagerzhang_rules.specs.Rules.{answerFinite}
-use Rattle.hagerzhang.specs.State.{asksOf, endedOf, turnedOf}
-use Rattle.hagerzhang.specs.Moves.{settledOf}
-use Rattle.hagerzhang.specs.Iteration.{runningOf}
-use Rattle.hagerzhang.specs.Opening.{firstOf, opensOf}
+use Rattle.hagerzhang_steps.specs.State.{asksOf, endedOf}
+use Rattle.hagerzhang_steps.specs.Opening.{firstOf}
+use Rattle.hagerzhang_steps.specs.Steps.{reactOf}
 
--- ---- an answer
-
--- what an answer of the start leads to
-unfoldable pub startsOf : Setup → Opened → Next
-startsOf s (More w x) = asksOf (Starting w) x
-startsOf s (Done w c) = settledOf s w c (iterations 0)
-startsOf s (Not r) = endedOf NoneYet (Refused r)
-
-unfoldable pub reactOf : Setup → Waiting → Float → Float → Next
-reactOf s (Starting w) f g = startsOf s (opensOf s w f g)
-reactOf s (Running t last asked) f g = runningOf s last t asked f g
+-- the search with what an answer leads to
+abbrev pub turnedOf : Setup → Evaluations → Next → Turn
+turnedOf s n to = record { search = record { setup = s; evaluations = n; stage = to .stage }; outcome = to .outcome }
 
 -- ---- what a state holds: bracket, best and iterations, or none yet; and the step at which an answer is awaited
 

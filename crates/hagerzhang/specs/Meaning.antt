@@ -14,23 +14,21 @@ use Rattle.hagerzhang_rules.specs.declared.Point.{Point}
 use Rattle.hagerzhang_rules.specs.declared.Bracket.{Bracket}
 use Rattle.hagerzhang_rules.specs.declared.Options.{Options}
 use Rattle.hagerzhang_rules.specs.declared.Setup.{Setup}
-use Rattle.hagerzhang.specs.declared.state.Finished.{Finished}
-use Rattle.hagerzhang.specs.declared.state.Growth.{Growth}
-use Rattle.hagerzhang.specs.declared.state.Kept.{Kept}
-use Rattle.hagerzhang.specs.declared.state.Kept.the-variants.{NoneYet, Last}
-use Rattle.hagerzhang.specs.declared.state.Rule.{Rule}
-use Rattle.hagerzhang.specs.declared.state.Rule.the-variants.{S1 as ByS1, S4 as ByS4, L2 as ByL2}
-use Rattle.hagerzhang.specs.declared.state.Trial.{Trial}
-use Rattle.hagerzhang.specs.declared.state.Asked.{Asked}
-use Rattle.hagerzhang.specs.declared.state.Asked.the-variants.{Update, Between}
+use Rattle.hagerzhang_steps.specs.declared.state.Finished.{Finished}
+use Rattle.hagerzhang_steps.specs.declared.state.Growth.{Growth}
+use Rattle.hagerzhang_steps.specs.declared.state.Rule.{Rule}
+use Rattle.hagerzhang_steps.specs.declared.state.Rule.the-variants.{S1 as ByS1, S4 as ByS4, L2 as ByL2}
+use Rattle.hagerzhang_steps.specs.declared.state.Trial.{Trial}
+use Rattle.hagerzhang_steps.specs.declared.state.Asked.{Asked}
+use Rattle.hagerzhang_steps.specs.declared.state.Asked.the-variants.{Update, Between}
 use Rattle.hagerzhang.specs.declared.state.Due.{Due}
 use Rattle.hagerzhang.specs.declared.state.Due.the-variants.{Awaited, NothingDue}
-use Rattle.hagerzhang.specs.declared.state.Waiting.{Waiting}
-use Rattle.hagerzhang.specs.declared.state.Opening.{Opening}
-use Rattle.hagerzhang.specs.declared.state.Opening.the-variants.{Low, High, StartStep, First, Later, Inside}
-use Rattle.hagerzhang.specs.declared.state.Waiting.the-variants.{Starting, Running}
-use Rattle.hagerzhang.specs.declared.state.Stage.{Stage}
-use Rattle.hagerzhang.specs.declared.state.Stage.the-variants.{Open, Over}
+use Rattle.hagerzhang_steps.specs.declared.state.Waiting.{Waiting}
+use Rattle.hagerzhang_steps.specs.declared.state.Opening.{Opening}
+use Rattle.hagerzhang_steps.specs.declared.state.Opening.the-variants.{Low, High, StartStep, First, Later, Inside}
+use Rattle.hagerzhang_steps.specs.declared.state.Waiting.the-variants.{Starting, Running}
+use Rattle.hagerzhang_steps.specs.declared.state.Stage.{Stage}
+use Rattle.hagerzhang_steps.specs.declared.state.Stage.the-variants.{Open, Over}
 use Rattle.hagerzhang.specs.declared.state.Search.{Search}
 use Rattle.hagerzhang.specs.declared.state.Turn.{Turn}
 use Rattle.hagerzhang.specs.declared.state.Started.{Started}
@@ -46,7 +44,6 @@ use Rattle.hagerzhang_rules.specs.Rules.{
   S4,
   Report,
   noneYet,
-  last,
   U3,
   update,
   afterS1,
@@ -57,16 +54,10 @@ use Rattle.hagerzhang_rules.specs.Rules.{
   growth,
   hagerZhang,
 }
+use Rattle.hagerzhang_steps.specs.Reports.{lastOf, keptReport}
 use Rattle.hagerzhang.specs.Machine.{keepsOf, heldOf, stepDue}
 
 -- ---- what a state reports
-
-abbrev pub lastOf : Finished → Report
-lastOf fin = last (record { bracket = fin .bracket; best = fin .best; iterations = fin .iterations .0 })
-
-unfoldable pub keptReport : Kept → Report
-keptReport NoneYet = noneYet
-keptReport (Last fin) = lastOf fin
 
 -- bracket, best and finished iterations, or none yet
 abbrev pub report : Search → Report

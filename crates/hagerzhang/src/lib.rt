@@ -1,31 +1,21 @@
-// Hager-Zhang as a machine. The search hands out a step and is given cost and slope there. An answer comes to a bracket
-// or goes on in U3 (Came), something follows in the iteration (Then), the search moves (Move), and one place writes the
-// next state. An answer of the start leads to its next step, to its end or to a refusal (Opened). The files go down in
-// this order: the entry here, opening.rt and iteration.rt, moves.rt, state.rt.
+// Hager-Zhang as a machine. The search hands out a step and is given cost and slope there. What an answer leads to is
+// in the crate hagerzhang_steps; here it is counted, refused where it is not finite, and put into the search.
 
-use crate::opening::Opened;
-use crate::state::Next;
-use crate::state::asks;
-use crate::state::ended;
 use crate::state::turned;
 use hagerzhang_rules::Options;
 use hagerzhang_rules::Setup;
+use hagerzhang_steps::Next;
 use refusals::Refusal;
 use runs::Evaluations;
-use runs::Iterations;
 use runs::Outcome;
 ghost use mathlib.Core.Path.{_≡_};
 ghost use mathlib.Core.Bool.{false};
 ghost use lib.Ieee.{isNan};
 ghost use Rattle.runs.specs.Asking.{reported, awaits};
-ghost use Rattle.runs.specs.Counters.{iterations};
-ghost use Rattle.hagerzhang_rules.specs.Rules.{iterationsIn};
 ghost use Rattle.hagerzhang.specs.Machine.{
   freshOf,
   StartSaid,
   AnswerSaid,
-  reactOf,
-  startsOf,
   keepsOf,
   heldOf,
   stepAsked,
@@ -34,27 +24,25 @@ ghost use Rattle.hagerzhang.specs.Machine.{
   awaitedOf,
   takenOf,
 };
-ghost use Rattle.hagerzhang.specs.Meaning.{keptReport, dueTold, meant, Starts, Follows};
+ghost use Rattle.hagerzhang_steps.specs.Reports.{keptReport};
+ghost use Rattle.hagerzhang.specs.Meaning.{dueTold, meant, Starts, Follows};
 
-mod iteration; // the way of an answer in an iteration, up to a move or its end
-mod opening; // the way of an answer in the start
-mod moves; // the end of an iteration, and a move made
-mod state; // the state, and its three builders
+mod state; // the search, and its builder
 
-pub use state::Asked;
+pub use hagerzhang_steps::Asked;
+pub use hagerzhang_steps::Finished;
+pub use hagerzhang_steps::Growth;
+pub use hagerzhang_steps::Kept;
+pub use hagerzhang_steps::Narrowing;
+pub use hagerzhang_steps::Opening;
+pub use hagerzhang_steps::Rule;
+pub use hagerzhang_steps::Stage;
+pub use hagerzhang_steps::Trial;
+pub use hagerzhang_steps::Waiting;
 pub use state::Due;
-pub use state::Finished;
-pub use state::Growth;
-pub use state::Kept;
-pub use state::Narrowing;
-pub use state::Opening;
-pub use state::Rule;
 pub use state::Search;
-pub use state::Stage;
 pub use state::Started;
-pub use state::Trial;
 pub use state::Turn;
-pub use state::Waiting;
 
 // ---- a start
 
@@ -90,15 +78,11 @@ pub fn start(o: Options, f0: f64, s0: f64) -> Started
 fn fresh(s: Setup) -> Turn
     ensures { λ r. ⌜ r ≡ freshOf s ⌝ }
 {
-    let w = opening::first(s);
-    turned(
-        s,
-        Evaluations(0),
-        asks(
-            Waiting::Starting(w),
-            opening_step(s.options.params.start, w),
-        ),
-    )
+    let w = hagerzhang_steps::first(s);
+    let x = opening_step(s.options.params.start, w);
+    let stage = Stage::Open(Waiting::Starting(w));
+    let outcome = Outcome::Ask(x);
+    turned(s, Evaluations(0), Next { stage, outcome })
 }
 
 // ---- the way of an answer
@@ -124,31 +108,11 @@ fn taken(s: Setup, n: Evaluations, waiting: Waiting, f: f64, g: f64) -> Turn
     ensures { λ r. ⌜ r ≡ takenOf s n waiting f g ⌝ }
 {
     if numbers::both_finite(f, g) {
-        return turned(s, n.next(), react(s, waiting, f, g));
+        return turned(s, n.next(), hagerzhang_steps::react(s, waiting, f, g));
     }
+    let stage = Stage::Over(keeps(waiting));
     let outcome = Outcome::Refused(Refusal::SuppliedNotFinite);
-    turned(s, n, ended(keeps(waiting), outcome))
-}
-
-// A finite answer.
-fn react(s: Setup, waiting: Waiting, f: f64, g: f64) -> Next
-    ensures { λ r. ⌜ r ≡ reactOf s waiting f g ⌝ }
-{
-    match waiting {
-        Waiting::Starting(w) => starts(s, opening::opens(s, w, f, g)),
-        Waiting::Running(t, last, asked) => iteration::running(s, last, t, asked, f, g),
-    }
-}
-
-// What an answer of the start leads to. A search that ends in its start keeps nothing.
-fn starts(s: Setup, o: Opened) -> Next
-    ensures { λ r. ⌜ r ≡ startsOf s o ⌝ }
-{
-    match o {
-        Opened::More(w, x) => asks(Waiting::Starting(w), x),
-        Opened::Done(w, c) => moves::settled(s, w, c, Iterations(0)),
-        Opened::Not(r) => ended(Kept::NoneYet, Outcome::Refused(r)),
-    }
+    turned(s, n, Next { stage, outcome })
 }
 
 // ---- what a search holds
@@ -162,18 +126,6 @@ pub fn held(s: Search) -> Kept
     match stage {
         Stage::Open(waiting) => keeps(waiting),
         Stage::Over(kept) => kept,
-    }
-}
-
-impl Kept {
-    // The finished iterations.
-    pub fn iterations(self) -> Iterations
-        ensures { λ r. ⌜ r ≡ iterations (iterationsIn (keptReport self)) ⌝ }
-    {
-        match self {
-            Kept::NoneYet => Iterations(0),
-            Kept::Last(last) => last.iterations,
-        }
     }
 }
 

@@ -1,5 +1,5 @@
--- 02, request 4, in numbers: sums of an iteration one of whose ends is S1's own step, or within EPS of it, worked out by
--- hand from the request's words, as 01 has its marked sums. A sum tells S1's step, what the update with its answer
+-- 02, request 4, in numbers: sums of an iteration one of whose ends is S1's own step, or within EPS of it, worked out
+-- by hand from the request's words, as 01 has its marked sums. A sum tells S1's step, what the update with its answer
 -- comes to, what S4 is given, and L2's step where it follows. The last one is M8 by the former text. Proved as a single
 -- claim, `end-sums` (proofs/EndSums.antt).
 use mathlib.Core.Path.{_≡_}
@@ -73,8 +73,8 @@ pub record EndSums : Type 0 where
       × ((f g : Float) → updated steep (point 2t f g) steep)
       × (S4 steep 2t steep ≡ Nothing)
       × (halved steep steep ≡ At t/2)
-  -- a = (0,1,-2), b = (4t,9,6): S1 asks t. Answer (0,2): (a, c). S3 is near to a and gives none; S2's secant(b, c), which
-  -- is -t/2, stays
+  -- a = (0,1,-2), b = (4t,9,6): S1 asks t. Answer (0,2): (a, c). S3 is near to a and gives none; S2's secant(b, c),
+  -- which is -t/2, stays
   pub S2-given :
       let c = point t (whole 0) (whole 2) in
       (secantOf (narrow .a) (narrow .b) ≡ t)

@@ -12,7 +12,8 @@ use runs::Verdict;
 ghost use mathlib.Core.List.{_++_};
 ghost use Rattle.runs.specs.Outcomes.{verdictWord, told};
 ghost use Rattle.text.specs.Text.{Writes, bytes};
-ghost use Rattle.hagerzhang.specs.Meaning.{lastOf, report};
+ghost use Rattle.hagerzhang_steps.specs.Reports.{lastOf};
+ghost use Rattle.hagerzhang.specs.Meaning.{report};
 ghost use Rattle.lines.specs.Lines.{verdictText, countsText, stopLine, limitLine, refusedLine, outcomeLine};
 ghost use Rattle.lines.specs.Closing.{noBracketText, closingText};
 

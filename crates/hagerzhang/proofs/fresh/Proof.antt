@@ -5,9 +5,8 @@ use Rattle.hagerzhang.proofs.fresh.Tie as tie
 
 returns : tie.Need-returns
 returns c =
-    c .turned .ensures
-    ∙ rw (c .before .asks .ensures, c .before .before .opening-step .ensures, c .before .before .before .first .ensures)
+    c .turned .ensures ∙ rw (c .before .opening-step .ensures, c .before .before .first .ensures)
 
 pub fresh-spec : {M : Type 1} → statement M
 fresh-spec =
-    tie.close (tie.spec (λ c κs. tt) (λ c κs. tt) (λ c κs. tt) (λ c κs. tt) returns)
+    tie.close (tie.spec (λ c κs. tt) (λ c κs. tt) (λ c κs. tt) returns)

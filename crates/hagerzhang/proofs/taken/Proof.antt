@@ -13,10 +13,10 @@ returns c =
 returns-2 : tie.Need-returns-2
 unfolding takenOf
 returns-2 c =
-    rw (sym (c .before .before .before .before .both-finite .ensures) ∙ c .before .before .before .if1 .left)
-    (c .turned2 .ensures ∙ rw (c .before .ended .ensures, c .before .before .keeps .ensures))
+    rw (sym (c .before .before .before .both-finite .ensures) ∙ c .before .before .if1 .left)
+    (c .turned2 .ensures ∙ rw (c .before .keeps .ensures))
 
 pub taken-spec : {M : Type 1} → statement M
 taken-spec =
     tie.close (tie.spec (λ c κs. tt) (λ c κs. tt) (λ c κs. tt) (λ c κs. tt) returns (λ c κs. tt) (λ c κs. tt)
-    (λ c κs. tt) returns-2)
+    returns-2)

@@ -1,6 +1,6 @@
 -- `lines::closing` meets its contract: what the search holds is what the rules report. Assumes nothing.
 use borrow.Author.Needs.{needs}
-use Rattle.hagerzhang.specs.Meaning.{keptReport}
+use Rattle.hagerzhang_steps.specs.Reports.{keptReport}
 use Rattle.lines.proofs.closing.Statement.{statement}
 use Rattle.lines.proofs.closing.Tie as tie
 

@@ -4,10 +4,11 @@ use borrow.Author.Needs.{needs}
 use Rattle.runs.specs.Counters.{iterations}
 use Rattle.runs.specs.declared.Iterations.{Iterations}
 use Rattle.hagerzhang_rules.specs.Rules.{iterationsIn}
-use Rattle.hagerzhang.specs.declared.state.Kept.{Kept}
+use Rattle.hagerzhang_steps.specs.declared.state.Kept.{Kept}
 use Rattle.hagerzhang.specs.declared.state.Search.{Search}
 use Rattle.hagerzhang.specs.Machine.{heldOf}
-use Rattle.hagerzhang.specs.Meaning.{keptReport, report}
+use Rattle.hagerzhang_steps.specs.Reports.{keptReport}
+use Rattle.hagerzhang.specs.Meaning.{report}
 use Rattle.play.proofs.line.Statement.{statement}
 use Rattle.play.proofs.line.Tie as tie
 
