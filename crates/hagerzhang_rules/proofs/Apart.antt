@@ -1,7 +1,8 @@
--- The cases of a report, of what an answer comes to, of the way of starting and of a list are apart. Assumes nothing.
+-- The cases of a report, of what an answer comes to, of the way of starting, of a list and of an option are apart.
+-- Assumes nothing.
 use mathlib.Core.Path.{_≡_}
 use mathlib.Core.List.{List, [], _∷_}
-use mathlib.Core.Option.{some}
+use mathlib.Core.Option.{some, none}
 use Prim.Native.Nat.{ℕ}
 use native.Mathlib.Omega.{arith}
 use lib.Ieee.{Float}
@@ -23,3 +24,6 @@ not-both e K same = let z : _≡_ {A = ℕ} 0 1 = cc in omega arith
 
 pub cons-not-nil : {A : Type 0} {x : A} {xs : List A} → x ∷ xs ≡ [] → ⊥
 cons-not-nil e = let z : _≡_ {A = ℕ} 0 1 = cc in omega arith
+
+pub none-not-some : {A : Type 0} {x : A} → none ≡ some x → ⊥
+none-not-some e = let z : _≡_ {A = ℕ} 0 1 = cc in omega arith

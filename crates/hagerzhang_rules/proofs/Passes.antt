@@ -38,7 +38,7 @@ pub data Kept (w : Bracket) : Came → Type 0 where
   kept-to : {u : Bracket} → KeptEnd w (w .a) (u .a) → KeptEnd w (w .b) (u .b) → Kept w (To u)
   kept-on : {h : Point} {k : Float} → KeptEnd w (w .a) h → k ≥ᶠ w .b .x ≡ false → Kept w (On h k)
 
-pub data KeptUpdate (w : Bracket) : Option Came → Type 0 where
+data KeptUpdate (w : Bracket) : Option Came → Type 0 where
   kept-some : {came : Came} → Kept w came → KeptUpdate w (some came)
   kept-none : KeptUpdate w none
 
@@ -47,10 +47,10 @@ unfolding updateOf
 updated-kept L w c =
     let Q : Option Came → Type 0 = KeptUpdate w in
     by-cases Q (outside w c) (λ e. kept-some (kept-to (inl refl) (inl refl)))
-    (λ no. by-cases Q (c .g ≥ᶠ 0ᶠ) (λ e. kept-some (kept-to (inl refl) (inr no)))
-    (λ e. by-cases Q (c .g <ᶠ 0ᶠ && c .f ≤ᶠ L) (λ e. kept-some (kept-to (inr no) (inl refl)))
+    (λ inside. by-cases Q (c .g ≥ᶠ 0ᶠ) (λ e. kept-some (kept-to (inl refl) (inr inside)))
+    (λ e. by-cases Q (c .g <ᶠ 0ᶠ && c .f ≤ᶠ L) (λ e. kept-some (kept-to (inr inside) (inl refl)))
     (λ e. by-cases Q (c .g <ᶠ 0ᶠ && c .f >ᶠ L)
-    (λ e. kept-some (kept-on (inl refl) (neither-second (c .x ≤ᶠ w .a .x) (c .x ≥ᶠ w .b .x) no)))
+    (λ e. kept-some (kept-on (inl refl) (neither-second (c .x ≤ᶠ w .a .x) (c .x ≥ᶠ w .b .x) inside)))
     (λ e. kept-none))))
 
 -- a step of U3 lies inside
@@ -59,9 +59,9 @@ module _ (w : Bracket) (h : Point) (k : Float) (d : Point) (strictly : isBetween
   above-low (inl e) =
       lt→nle (w .a .x) (d .x)
       (subst (λ (p : Point). p .x <ᶠ d .x ≡ true) e (and-first (h .x <ᶠ d .x) (d .x <ᶠ k) strictly))
-  above-low (inr out) = false-if (d .x ≤ᶠ w .a .x) λ under.
+  above-low (inr inside) = false-if (d .x ≤ᶠ w .a .x) λ under.
       let below = le-trans (h .x) (d .x) (w .a .x) (lt→le (h .x) (d .x) (and-first _ _ strictly)) under in
-      false≢true (sym (neither-first (h .x ≤ᶠ w .a .x) (h .x ≥ᶠ w .b .x) out) ∙ below)
+      false≢true (sym (neither-first (h .x ≤ᶠ w .a .x) (h .x ≥ᶠ w .b .x) inside) ∙ below)
 
   below-high : k ≥ᶠ w .b .x ≡ false → d .x ≥ᶠ w .b .x ≡ false
   below-high high = false-if (d .x ≥ᶠ w .b .x) λ over.
@@ -88,18 +88,19 @@ module _ {I K R : Type 0} (s : Setup) (refuse : Why → R) (kept : K) (Q : (I �
   abbrev OnBracket : Type 0
   OnBracket = I → Bracket → Run K R
 
-  tests : (b : Bool) {r r' : I → Run K R} → (b ≡ true → Q r) → (b ≡ false → Q r') → Q (λ i. cond b (r i) (r' i))
-  tests true held failed = held refl
-  tests false held failed = failed refl
+  -- all of them go by the same test
+  by-test : (b : Bool) {r r' : I → Run K R} → (b ≡ true → Q r) → (b ≡ false → Q r') → Q (λ i. cond b (r i) (r' i))
+  by-test true held failed = held refl
+  by-test false held failed = failed refl
 
   asks : (x : Float) (then : OnPoint) → ((f g : Float) → Q (λ i. then i (point x f g)))
       → Q (λ i. asking s refuse kept x (then i))
-  asks x then go = waits x _ (λ f g. tests (answerFinite f g) (λ e. go f g) (λ e. over _))
+  asks x then go = waits x _ (λ f g. by-test (answerFinite f g) (λ e. go f g) (λ e. over _))
 
-  pub tries : (x : Float) (then : OnPoint) → ((f g : Float) → Q (λ i. then i (point x f g)))
+  tries : (x : Float) (then : OnPoint) → ((f g : Float) → Q (λ i. then i (point x f g)))
       → Q (λ i. trial s refuse kept x (then i))
   unfolding trial
-  tries x then go = tests (finite x) (λ e. asks x then go) (λ e. over _)
+  tries x then go = by-test (finite x) (λ e. asks x then go) (λ e. over _)
 
   -- U3, and whatever is kept by each of its answers
   narrows : (P : Came → Type 0)
@@ -113,8 +114,8 @@ module _ {I K R : Type 0} (s : Setup) (refuse : Why → R) (kept : K) (Q : (I �
   narrows P stays (suc n) (To u) p then go = go u p
   narrows P stays (suc n) (On h k) p then go =
       let x = middleOf (s .options .params .theta) h k in
-      tests (finite x)
-      (λ e. tests (isBetween h k x)
+      by-test (finite x)
+      (λ e. by-test (isBetween h k x)
       (λ strictly. asks x (λ i d. U3 s refuse kept n (narrowedOf (s .level) h k d) (then i)) (λ f g.
       narrows P stays n (narrowedOf (s .level) h k (point x f g)) (stays h k (point x f g) strictly p) then go))
       (λ e. over _))

@@ -5,9 +5,8 @@ use mathlib.Core.Path.{_≡_, refl, sym, ap, ap₂, _∙_, subst, fun-ext}
 use mathlib.Core.Bool.{Bool, true, false, not, cond, _&&_, false≢true}
 use mathlib.Core.List.{List, [], _∷_}
 use mathlib.Core.Logic.{_⊎_, inl, inr}
-use mathlib.Core.Option.{some, none}
+use mathlib.Core.Option.{none}
 use Prim.Native.Nat.{ℕ, zero, suc, _+_}
-use native.Mathlib.Omega.{arith}
 use lib.Ieee.{Float, isNan, ofBits}
 use lib.Ieee.Scale.{finite}
 use Rattle.floats.specs.Arithmetic.{1ᶠ, _⊖_, _⊗_, _≤ᶠ_, _≥ᶠ_}
@@ -34,6 +33,7 @@ use Rattle.hagerzhang_rules.specs.Brackets.{Ordered}
 use Rattle.hagerzhang_rules.specs.Iterations.{Alone, Plays, not-yet, then-asked}
 use Rattle.hagerzhang_rules.specs.ZeroSlope.{formerS2, formerS3, formerS4, formerly, Changes, GivesNan, OfUpdate}
 use Rattle.hagerzhang_rules.specs.ZeroSlope.{updateAlone, unlessFive, formerBut, marked, Alike, Parts, ZeroSlope}
+use Rattle.hagerzhang_rules.proofs.Apart.{none-not-some}
 use Rattle.hagerzhang_rules.proofs.Passes.{KeptEnd, Kept, kept-to, updates, after-S1, iterates, starts}
 
 -- ---- one update
@@ -283,24 +283,25 @@ FromAsk ys =
     → ((f g : Float) → Goes (t1 f g) (t2 f g) (t3 f g)) → Either (ask k x t1) (ask k x t2) (ask k x t3) ys
 
 -- one answer y leads from an ask to these
-module _ (k : Report) (x : Float) (t1 t2 t3 : Float → Float → Rest Report) (y : Reply) (ys : List Reply) where
-  further-on : shown (t3 (y .0) (y .1)) ≡ shown (t1 (y .0) (y .1))
-      → Either (t1 (y .0) (y .1)) (t2 (y .0) (y .1)) (t3 (y .0) (y .1)) ys
-      → Either (ask k x t1) (ask k x t2) (ask k x t3) (y ∷ ys)
+module _ (k : Report) (x : Float) (t1 t2 t3 : Float → Float → Rest Report) (y : Reply)
+    (same : shown (t3 (y .0) (y .1)) ≡ shown (t1 (y .0) (y .1))) where
+  alike-on : {ys : List Reply} → Alike (t3 (y .0) (y .1)) (t1 (y .0) (y .1)) ys
+      → Alike (ask k x t3) (ask k x t1) (y ∷ ys)
   unfolding outcomes after respond
-  further-on same (inl alike) =
-      inl (record { tells = ap₂ _∷_ same (alike .tells); reports = alike .reports; expects = alike .expects })
-  further-on same (inr p) =
+  alike-on alike =
+      record { tells = ap₂ _∷_ same (alike .tells); reports = alike .reports; expects = alike .expects }
+
+  further-on : {ys : List Reply} → Either (t1 (y .0) (y .1)) (t2 (y .0) (y .1)) (t3 (y .0) (y .1)) ys
+      → Either (ask k x t1) (ask k x t2) (ask k x t3) (y ∷ ys)
+  unfolding after respond
+  further-on (inl alike) = inl (alike-on alike)
+  further-on (inr p) =
       inr (record {
         before = y ∷ p .before;
         y = p .y;
         later = p .later;
         split = ap (λ (zs : List Reply). y ∷ zs) (p .split);
-        alike = record {
-          tells = ap₂ _∷_ same (p .alike .tells);
-          reports = p .alike .reports;
-          expects = p .alike .expects;
-        };
+        alike = alike-on (p .alike);
         refused = p .refused;
         at-S4 = p .at-S4;
       })
@@ -321,7 +322,7 @@ from-ask : (ys : List Reply) → FromAsk ys
 from-ask [] k x t1 t2 t3 go = inl (unfold reported awaits in at-once refl refl)
 from-ask (y ∷ ys) k x t1 t2 t3 go =
     elim (comes-to ys (from-ask ys) (go (y .0) (y .1))) [
-      | inl on ↦ further-on k x t1 t2 t3 y ys (on .0) (on .1)
+      | inl on ↦ further-on k x t1 t2 t3 y (on .0) (on .1)
       | inr here ↦ inr (record {
         before = [];
         y = y;
@@ -334,9 +335,6 @@ from-ask (y ∷ ys) k x t1 t2 t3 go =
     ]
 
 -- a search begins with an ask
-none-not-some : {n : ℕ} → none ≡ some n → ⊥
-none-not-some e = let z : _≡_ {A = ℕ} 0 1 = cc in omega arith
-
 first-asks : (s : Setup) (way : Way) (then : Point → Bracket → Rest Report)
     → refusalIn (shown (starting s (keeping noneYet) noneYet way then)) ≡ none
 unfolding starting shown

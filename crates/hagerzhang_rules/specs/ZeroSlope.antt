@@ -81,7 +81,8 @@ unlessFive (At x) instead = cond (finite x) (At x) instead
 abbrev pub formerBut : Giving → Giving
 formerBut instead w cx u = unlessFive (formerS4 w cx u) (instead w cx u)
 
--- the former search with 1 in that place: it asks 1 exactly there where the former one is refused
+-- the former search with 1 in that place, so that it asks 1 where the former one is refused at S4's step. All else of
+-- the two is one text
 abbrev pub marked : Setup → Rest Report
 marked s = hagerZhangBy s (formerBut (λ w cx u. At 1ᶠ))
 

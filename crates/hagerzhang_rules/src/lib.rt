@@ -1,5 +1,6 @@
 // The words of Hager-Zhang's rules: points, brackets, parameters, and what a rule decides. No function stands here:
-// specs/ is 01's text, proofs/ has the theorems about that text alone; crates/hagerzhang_decisions decides each rule.
+// specs/ is 01's text, proofs/ has the theorems about that text alone. hagerzhang_parameters has the tests of a start,
+// and hagerzhang_decisions decides each rule.
 
 use runs::Verdict;
 
