@@ -6,20 +6,20 @@ use mathlib.Core.Logic.{_⊎_, inl, inr}
 use mathlib.Core.Bool.{Bool, true, false, not, _&&_, cond}
 use Prim.Native.Nat.{ℕ, zero, suc, _+_, _-_, _*_, _^_, _≤_, _<_}
 use native.Mathlib.Nat.{le-trans, le-of-eq, zero-lt-suc, mul-pos, mul-le-mul-right, mul-lt-mul-of-pos-right}
-use native.Mathlib.Nat.{le-of-mul-le-mul-right, lt-of-mul-lt-mul-right}
-use native.Mathlib.Nat.{mul-one, zero-mul, mul-comm, mul-assoc, mul-left-comm, mul-right-comm, pow-succ'}
+use native.Mathlib.Nat.{le-of-mul-le-mul-right, lt-of-mul-lt-mul-right, mul-one, zero-mul, mul-comm, mul-assoc}
+use native.Mathlib.Nat.{mul-left-comm, mul-right-comm, pow-succ'}
 use native.Mathlib.Omega.{arith}
 use lib.Dec.{T, lt→ltb, ltb, ltb→lt, nltb→le}
 use lib.IntN.{ℤ, pos}
 use lib.Pow.{pow-add, pow-pos}
-use lib.Ieee.{Float, nan, inf, fin, Format, binary32, binary64, emax, low, up, down, fits, isNan, ofBits}
-use lib.Ieee.{round, sum, add, mul, lt, le, unlike}
+use lib.Ieee.{Float, nan, inf, fin, Format, binary32, binary64, emax, low, up, down, fits, isNan, ofBits, round, sum}
+use lib.Ieee.{add, mul, lt, le, unlike}
 use lib.Ieee.Fits.{down-pos, up-pos}
 use lib.Ieee.Exact.{HasValue, round-exact}
 use lib.Ieee.Order.{round-mono}
 use lib.Ieee.Bits.{is-true}
-use lib.Ieee.Positive.{num, den, positive, den-pos, first-pos}
-use lib.Ieee.Positive.{own-value, positive-of-value, values-of-le, le→cross, mul-at}
+use lib.Ieee.Positive.{num, den, positive, den-pos, first-pos, own-value, positive-of-value, values-of-le, le→cross}
+use lib.Ieee.Positive.{mul-at}
 use lib.Ieee.Scale.{finite}
 use Rattle.floats.specs.Arithmetic.{_⊕_, _⊗_, _<ᶠ_, _≤ᶠ_, 0ᶠ, 5ᶠ}
 use Rattle.floats.proofs.Tests.{yes, no, yes-or-no}
@@ -239,7 +239,7 @@ above-zero n d h =
     let Y : 0 < y = subst (λ (k : ℕ). k < y) (zero-mul (down d)) (ltb→lt (0 * down d) y h) in
     lt→ltb 0 n (first-pos n (up d) (first-pos (n * up d) 1 Y))
 
-positive-by : (x : Float) → T (finite x) → T (lt (fin false 0 (pos 0)) x) → T (positive x)
+pub positive-by : (x : Float) → T (finite x) → T (lt (fin false 0 (pos 0)) x) → T (positive x)
 unfolding lt
 positive-by nan p h = p
 positive-by (inf s) p h = p

@@ -6,6 +6,9 @@ pub mod Compare
 pub mod Order
 pub mod Rounding
 pub mod Growth
+pub mod Differences
 pub mod Shrinks
 pub mod Same
 pub mod Itself
+pub mod Halves
+pub mod Middle

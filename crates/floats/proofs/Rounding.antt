@@ -3,12 +3,12 @@
 use mathlib.Core.Path.{_≡_, refl, sym, ap, _∙_, subst}
 use mathlib.Core.Bool.{Bool, true, false, not, _&&_, cond, false≢true, true≢false}
 use Prim.Native.Nat.{ℕ, zero, suc, _+_, _-_, _*_, _%_, _^_, _≤_, _<_}
-use native.Mathlib.Nat.{lt-of-not-le, not-le-of-lt, le-of-suc-le-suc, mul-lt-mul-of-pos-right}
-use native.Mathlib.Nat.{mul-one, zero-mul, mul-comm, mul-assoc}
+use native.Mathlib.Nat.{lt-of-not-le, not-le-of-lt, le-of-suc-le-suc, mul-lt-mul-of-pos-right, mul-one, zero-mul}
+use native.Mathlib.Nat.{mul-comm, mul-assoc}
 use lib.Dec.{T, ltb, leb, eqb, ltb→lt, leb→le, eqb→eq}
 use lib.IntN.{ℤ, pos, negsuc}
 use lib.Pow.{pow-add, pow-pos, pow-lt}
-use lib.Ieee.{Float, nan, inf, fin, Format, prec, emax, low, up, down, odd, units, round, neg, le, fits}
+use lib.Ieee.{Float, nan, inf, fin, Format, prec, emax, low, up, down, odd, units, round, neg, le, fits, isNan}
 use lib.Ieee.Fits.{and-l, and-r, round-is, down-pos}
 use lib.Ieee.Digits.{back}
 use lib.Ieee.Exact.{HasValue, round-exact}
@@ -137,7 +137,7 @@ units-neg f q k = go (ltb (q * 2 ^ k) (2 ^ (low f + suc (emax f))))
 pub round-neg : (f : Format) (a b : ℕ) → round f true a b ≡ neg (round f false a b)
 round-neg f a b = round-is f true a b ∙ units-neg f _ _ ∙ ap neg (sym (round-is f false a b))
 
-neg-le : (x y : Float) → T (le x y) → T (le (neg y) (neg x))
+pub neg-le : (x y : Float) → T (le x y) → T (le (neg y) (neg x))
 unfolding le neg
 neg-le nan y h = absurd h
 neg-le (inf s) nan h = absurd h
@@ -176,6 +176,15 @@ units-signed f s q k = go (ltb (q * 2 ^ k) (2 ^ (low f + suc (emax f))))
 
 round-signed : (f : Format) (s : Bool) (a b : ℕ) → Signed s (round f s a b)
 round-signed f s a b = subst (Signed s) (sym (round-is f s a b)) (units-signed f s _ _)
+
+signed-real : (s : Bool) (x : Float) → Signed s x → isNan x ≡ false
+unfolding isNan
+signed-real s nan p = absurd p
+signed-real s (inf t) p = refl
+signed-real s (fin t m e) p = refl
+
+pub round-real : (f : Format) (s : Bool) (a b : ℕ) → isNan (round f s a b) ≡ false
+round-real f s a b = signed-real s (round f s a b) (round-signed f s a b)
 
 across : (x y : Float) → Signed true x → Signed false y → T (le x y)
 unfolding le

@@ -12,7 +12,7 @@ use lib.Ieee.Bits.{is-true}
 use lib.Ieee.Exact.{HasValue}
 use lib.Ieee.Fits.{down-pos}
 use lib.Ieee.Scale.{finite}
-use Rattle.floats.specs.Arithmetic.{_⊗_, _<ᶠ_, 0ᶠ, 1ᶠ}
+use Rattle.floats.specs.Arithmetic.{_⊗_, _<ᶠ_, _≤ᶠ_, 0ᶠ, 1ᶠ}
 use Rattle.floats.proofs.Tests.{yes}
 use Rattle.floats.proofs.Rounding.{round-own, round-le}
 
@@ -21,16 +21,20 @@ value-finite nan s a c h = h
 value-finite (inf t) s a c h = h
 value-finite (fin t m e) s a c h = tt
 
-between-finite : (x y z : Float) → T (finite x) → T (finite z) → T (le x y) → T (le y z) → T (finite y)
+finite-between : (x y z : Float) → T (finite x) → T (finite z) → T (le x y) → T (le y z) → T (finite y)
 unfolding le
-between-finite nan y z p q h k = absurd p
-between-finite (inf s) y z p q h k = absurd p
-between-finite (fin s m e) nan z p q h k = h
-between-finite (fin s m e) (inf true) z p q h k = h
-between-finite (fin s m e) (inf false) nan p q h k = k
-between-finite (fin s m e) (inf false) (inf t) p q h k = q
-between-finite (fin s m e) (inf false) (fin t n d) p q h k = k
-between-finite (fin s m e) (fin t n d) z p q h k = tt
+finite-between nan y z p q h k = absurd p
+finite-between (inf s) y z p q h k = absurd p
+finite-between (fin s m e) nan z p q h k = h
+finite-between (fin s m e) (inf true) z p q h k = h
+finite-between (fin s m e) (inf false) nan p q h k = k
+finite-between (fin s m e) (inf false) (inf t) p q h k = q
+finite-between (fin s m e) (inf false) (fin t n d) p q h k = k
+finite-between (fin s m e) (fin t n d) z p q h k = tt
+
+pub between-finite : (x y z : Float) → finite x ≡ true → finite z ≡ true → x ≤ᶠ y ≡ true → y ≤ᶠ z ≡ true
+    → finite y ≡ true
+between-finite x y z p q h k = is-true (finite y) (finite-between x y z (yes p) (yes q) (yes h) (yes k))
 
 zero-finite : (f : Format) → T (finite (round f false 0 1))
 unfolding round
@@ -42,13 +46,13 @@ no-larger : (f : Format) (s : Bool) (m : ℕ) (e : ℤ) (a c : ℕ) → T (fits 
     → a * down e ≤ m * up e * c → T (finite (round f s a c))
 no-larger f false m e a c F C h =
     let top = round f false (m * up e) (down e) in
-    between-finite (round f false 0 1) (round f false a c) top (zero-finite f)
+    finite-between (round f false 0 1) (round f false a c) top (zero-finite f)
     (value-finite top false (m * up e) (down e) (round-own f false m e F))
     (round-le f false false 0 1 a c (omega arith) C (let z : 0 * c ≡ 0 = zero-mul c in omega arith))
     (round-le f false false a c (m * up e) (down e) C (down-pos e) h)
 no-larger f true m e a c F C h =
     let top = round f true (m * up e) (down e) in
-    between-finite top (round f true a c) (round f false 0 1)
+    finite-between top (round f true a c) (round f false 0 1)
     (value-finite top true (m * up e) (down e) (round-own f true m e F)) (zero-finite f)
     (round-le f true true (m * up e) (down e) a c (down-pos e) C h)
     (round-le f true false a c 0 1 C (omega arith) tt)
