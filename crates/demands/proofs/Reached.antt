@@ -18,9 +18,9 @@ use Rattle.backtracking.specs.Machine.{freshOf as trialsFresh, answerBy, triedO
 use Rattle.hagerzhang_rules.specs.declared.Setup.{Setup}
 use Rattle.hagerzhang_rules.specs.Parameters.{setupOf, startRows}
 use Rattle.hagerzhang_rules.specs.Rules.{answerFinite, updateOf, narrowedOf, S2, S3, L2, bestOver, judgeOf, trial}
-use Rattle.hagerzhang_rules.specs.Rules.{between, U3, updating, further, afterS4, afterS1, iterationBy, EPS, grownOf}
-use Rattle.hagerzhang_rules.specs.Rules.{askStart, askHigh, enough, growth, starting, Report, iterationsIn, decided}
-use Rattle.hagerzhang_rules.specs.Rules.{verdict, roundsBy, hagerZhang, hagerZhangBy}
+use Rattle.hagerzhang_rules.specs.Rules.{between, U3, updating, further, afterS4, iterationBy, EPS, grownOf, askStart}
+use Rattle.hagerzhang_rules.specs.Rules.{askHigh, enough, growth, starting, Report, iterationsIn, decided, verdict}
+use Rattle.hagerzhang_rules.specs.Rules.{roundsBy, hagerZhang, hagerZhangBy}
 use Rattle.hagerzhang_rules.proofs.Ranges.{Accepted}
 use Rattle.hagerzhang_rules.proofs.UnderWay.{noted, under-way}
 use Rattle.hagerzhang.specs.Machine.{freshOf}
@@ -55,7 +55,7 @@ record Computed : Type 0 where
 
 computed : Computed
 unfolding under-way accepted after respond shown reported isOver hagerZhangBy starting askHigh askStart roundsBy verdict
-    decided judgeOf bestOver iterationBy afterS1 afterS4 further updating U3 between trial L2 S3 S2 narrowedOf updateOf
+    decided judgeOf bestOver iterationBy afterS4 further updating U3 between trial L2 S3 S2 narrowedOf updateOf
     add sub mul div neg le lt ofBits ofInt
 computed = record {
   finished = refl;
@@ -112,7 +112,7 @@ record Grew : Type 0 where
 
 grew : Grew
 unfolding under-way after respond shown reported isOver hagerZhangBy starting growth enough grownOf roundsBy verdict
-    decided judgeOf bestOver iterationBy afterS1 afterS4 further updating U3 between trial L2 S3 S2 narrowedOf updateOf
+    decided judgeOf bestOver iterationBy afterS4 further updating U3 between trial L2 S3 S2 narrowedOf updateOf
     add sub mul div neg le lt ofBits ofInt
 grew = record {
   finished = refl;

@@ -62,7 +62,7 @@ use Rattle.hagerzhang.specs.declared.state.Started.the-variants.{Began, 
 use Rattle.hagerzhang_rules.specs.Parameters.{setupOf, startRows}
 use Rattle.hagerzhang_rules.specs.Rules.{point, answerFinite, middleOf, narrowedOf, longerOf, secantOf, S4, L2, bestOf}
 use Rattle.hagerzhang_rules.specs.Rules.{judgeOf, asking, trial, between, U3, updating, update, further, afterS4}
-use Rattle.hagerzhang_rules.specs.Rules.{afterS1, iteration, iterationBy, askStart, askHigh, enough, growth}
+use Rattle.hagerzhang_rules.specs.Rules.{iteration, iterationBy, askStart, askHigh, enough, growth}
 use Rattle.hagerzhang_rules.specs.Rules.{starting as starts-by, Report, noneYet, reportOf, decided, verdict, rounds}
 use Rattle.hagerzhang_rules.specs.Rules.{roundsBy, hagerZhang, hagerZhangBy}
 use Rattle.hagerzhang_decisions.proofs.Decides.{decides}
@@ -74,11 +74,11 @@ use Rattle.hagerzhang_steps.specs.Opening.{opensOf}
 use Rattle.hagerzhang_steps.specs.Iteration.{comesOf, leftOf, triedBy, afterS4Of, afterS1Of, followBy, onwardOf, wentOf}
 use Rattle.hagerzhang_steps.specs.Iteration.{runningOf}
 use Rattle.hagerzhang_steps.specs.Steps.{startsOf, reactOf}
-use Rattle.hagerzhang.specs.Machine.{keepsOf, stepAsked, openingStep, stepDue, takenOf}
-use Rattle.hagerzhang.specs.Machine.{answerBy, answerOf, freshOf, startOf, StartSaid, AnswerSaid}
+use Rattle.hagerzhang.specs.Machine.{keepsOf, stepAsked, openingStep, stepDue, takenOf, answerBy, answerOf}
+use Rattle.hagerzhang.specs.Machine.{freshOf, startOf, StartSaid, AnswerSaid}
 use Rattle.hagerzhang_steps.specs.Reports.{lastOf, keptReport}
-use Rattle.hagerzhang.specs.Meaning.{closed, afterTrial, onAsked, begins as begins-with}
-use Rattle.hagerzhang.specs.Meaning.{onOpening, onAnswer, meaning, meant, begun, Starts, Follows}
+use Rattle.hagerzhang.specs.Meaning.{closed, afterTrial, onAsked, begins as begins-with, onOpening, onAnswer}
+use Rattle.hagerzhang.specs.Meaning.{meaning, meant, begun, Starts, Follows}
 
 denote : Setup → Next → Seen Report
 denote s n = (meaning s (n .stage), told (n .outcome))
@@ -143,7 +143,7 @@ module _ (s : Setup) (h : s .options .limit < 4294967296) (w : Bracket) (c : Poi
   -- what follows the verdict, while n iterations may be begun
   onwards : ℕ → Rest Report
   onwards zero = endWith (reportOf s w c i) (limit (bestOf (w .a) (w .b) c .x))
-  onwards (suc n) = iteration s (keeping (reportOf s w c i)) (reportOf s w c i) w (λ v. rounds s n v c (i + 1))
+  onwards (suc n) = iteration s (keeping (reportOf s w c i)) (reportOf s w c i) w (λ z v. rounds s n v c (i + 1))
 
   round-is : (n : ℕ) → verdict s w c i (onwards n) ≡ rounds s n w c i
   unfolding onwards roundsBy
@@ -205,8 +205,8 @@ module _ (s : Setup) (h : s .options .limit < 4294967296) (fin : Finished) where
 
   after-S1 : (c : Float) (u : Bracket)
       → went s fin (afterS1Of gamma (fin .bracket) c u)
-      ≡ seen (afterS1 s (keeping (lastOf fin)) (lastOf fin) (S4 (fin .bracket) c u) (fin .bracket) u (closed s fin))
-  unfolding afterS1 afterTrial
+      ≡ seen (afterTrial s fin ByS1 c u)
+  unfolding afterTrial
   after-S1 c u =
       tried u ByS4 (afterS4Of gamma (fin .bracket) u)
       (λ v. afterS4 s (keeping (lastOf fin)) (lastOf fin) (fin .bracket) v (closed s fin))

@@ -46,7 +46,7 @@ use Rattle.hagerzhang_rules.specs.Rules.{
   noneYet,
   U3,
   update,
-  afterS1,
+  further,
   afterS4,
   rounds,
   askStart,
@@ -90,7 +90,8 @@ module _ (s : Setup) (fin : Finished) where
   -- how the iteration goes on from the update of a trial at c
   unfoldable pub afterTrial : Rule → Float → Bracket → Rest Report
   afterTrial ByS1 c u =
-      afterS1 s (keeping (lastOf fin)) (lastOf fin) (S4 (fin .bracket) c u) (fin .bracket) u closed
+      further s (keeping (lastOf fin)) (lastOf fin) (S4 (fin .bracket) c u) u λ v.
+      afterS4 s (keeping (lastOf fin)) (lastOf fin) (fin .bracket) v closed
   afterTrial ByS4 c u = afterS4 s (keeping (lastOf fin)) (lastOf fin) (fin .bracket) u closed
   afterTrial ByL2 c u = closed u
 

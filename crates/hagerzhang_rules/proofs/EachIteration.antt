@@ -3,15 +3,17 @@
 use mathlib.Core.Path.{_≡_, refl}
 use mathlib.Core.Bool.{true, _&&_}
 use mathlib.Core.List.{List, [], _∷_}
-use mathlib.Core.Logic.{inl, inr}
+use mathlib.Core.Logic.{inl}
 use mathlib.Core.Option.{Option, some}
 use Prim.Native.Nat.{ℕ, zero, suc, _+_, _*_, _≤_, _<_}
 use native.Mathlib.Omega.{arith}
 use lib.ListN.{length}
 use lib.Ieee.{Float}
 use lib.Ieee.Scale.{finite}
-use Rattle.floats.proofs.Branches.{by-cases, and-first, and-second}
-use Rattle.runs.specs.Asking.{end, Rest, keeping, reported}
+use Rattle.floats.specs.Arithmetic.{_≤ᶠ_, 0ᶠ}
+use Rattle.floats.proofs.Order.{le-trans}
+use Rattle.floats.proofs.Branches.{by-cases, both, and-first, and-second}
+use Rattle.runs.specs.Asking.{Rest, keeping, reported}
 use Rattle.hagerzhang_rules.specs.declared.Point.{Point}
 use Rattle.hagerzhang_rules.specs.declared.Bracket.{Bracket}
 use Rattle.hagerzhang_rules.specs.declared.Setup.{Setup}
@@ -22,15 +24,18 @@ use Rattle.hagerzhang_rules.specs.declared.Further.the-variants.{Nothing
 use Rattle.hagerzhang_rules.specs.declared.Judged.{Judged}
 use Rattle.hagerzhang_rules.specs.declared.Judged.the-variants.{Holds, Fails}
 use Rattle.hagerzhang_rules.specs.Rules.{point, bracket, updateOf, secantOf, S4, L2, lowest, bestOver, bestOf}
-use Rattle.hagerzhang_rules.specs.Rules.{judgeOf, trial, updating, update, further, afterS4, afterS1, iteration}
+use Rattle.hagerzhang_rules.specs.Rules.{judgeOf, trial, updating, update, further, afterS4, iteration}
 use Rattle.hagerzhang_rules.specs.Rules.{iterationBy, Summary, Report, last, reportOf, decided, verdict, rounds}
 use Rattle.hagerzhang_rules.specs.Rules.{roundsBy}
 use Rattle.hagerzhang_rules.specs.Brackets.{Ordered}
+use Rattle.hagerzhang_rules.specs.HowFast.{stepsFinite}
 use Rattle.hagerzhang_rules.specs.Iterations as words
-use Rattle.hagerzhang_rules.specs.Iterations.{Alone, alone, Plays, not-yet, there, standing, had, pointFinite}
-use Rattle.hagerzhang_rules.proofs.Iterations.{Fine, Stands, ended, Arrives, stays, finishes, none-asked}
+use Rattle.hagerzhang_rules.specs.Iterations.{Alone, Iterated, leaves, alone, Plays, not-yet, there, standing}
+use Rattle.hagerzhang_rules.specs.Iterations.{had, pointFinite}
+use Rattle.hagerzhang_rules.proofs.Iterations.{Ready, Fine, Stands, ended, Arrives, stays, finishes, none-asked}
 use Rattle.hagerzhang_rules.proofs.StaysBracket.{Frame, Sound, SoundUpdate, reaches, more, on-bracket}
-use Rattle.hagerzhang_rules.proofs.StaysBracket.{sound-within, sound-stays, sound-self, updated-sound}
+use Rattle.hagerzhang_rules.proofs.StaysBracket.{sound-within, sound-stays, sound-self, updated-sound, x-finite}
+use Rattle.hagerzhang_rules.proofs.HowFast.{fate, closes, widths, Placed, exactly}
 use Rattle.hagerzhang_rules.proofs.Within.{Comes, Goes, one-more-asked, one-more-had, ends, asks, narrows}
 
 -- ---- one iteration, where p is reported and N allows one more
@@ -54,16 +59,16 @@ module _ (s : Setup) (fL : finite (s .level) ≡ true) (p : Summary) (fine : Fin
   abbrev On-p : List Point → Rest Report → Type 0
   On-p = Arrives s k
 
-  abbrev Alone-on : List Point → Alone → Type 0
+  abbrev Alone-on : List Point → Alone Iterated → Type 0
   Alone-on = Plays (alone s k w)
 
-  abbrev Reaches : List Point → Bracket → Alone → Type 0
+  abbrev Reaches : List Point → Bracket → Alone Iterated → Type 0
   Reaches = Comes s k (alone s k w) F
 
-  abbrev Continues : ℕ → (Bracket → Rest Report) → (Bracket → Alone) → Type 0
+  abbrev Continues : ℕ → (Bracket → Rest Report) → (Bracket → Alone Iterated) → Type 0
   Continues = Goes s k (alone s k w) F
 
-  tries : (asked : List Point) (u : Bracket) (x : Float) (then : Point → Rest Report) (then' : Point → Alone)
+  tries : (asked : List Point) (u : Bracket) (x : Float) (then : Point → Rest Report) (then' : Point → Alone Iterated)
       → length asked < 3 + 3 * B → Reaches asked u (trial s inl k x then')
       → ((f g : Float) → pointFinite (point x f g) ≡ true → Alone-on (point x f g ∷ asked) (then' (point x f g))
       → On-p (point x f g ∷ asked) (then (point x f g)))
@@ -79,7 +84,7 @@ module _ (s : Setup) (fL : finite (s .level) ≡ true) (p : Summary) (fine : Fin
       (words.trial-not-finite (at .stands) (rw e at (at .there)) e))
 
   -- an update with c, just asked, of the bracket that was reached
-  updates-by : (asked : List Point) (o : Option Came) (then : Bracket → Rest Report) (then' : Bracket → Alone)
+  updates-by : (asked : List Point) (o : Option Came) (then : Bracket → Rest Report) (then' : Bracket → Alone Iterated)
       → length asked + B ≤ 3 + 3 * B → standing s k asked ≡ o → had s k asked ≡ 0
       → Alone-on asked (updating s inl k o then') → SoundUpdate L F asked o → Continues (length asked + B) then then'
       → On-p asked (updating s (keeping k) k o then)
@@ -87,7 +92,8 @@ module _ (s : Setup) (fL : finite (s .level) ≡ true) (p : Summary) (fine : Fin
   updates-by asked (some came) then then' room stands none-had at (reaches i) go =
       narrows s k fine below (alone s k w) F B asked came then then' room stands (omega arith) at i go
 
-  updates : (asked : List Point) (u : Bracket) (c : Point) (then : Bracket → Rest Report) (then' : Bracket → Alone)
+  updates : (asked : List Point) (u : Bracket) (c : Point) (then : Bracket → Rest Report)
+      (then' : Bracket → Alone Iterated)
       → length asked + suc B ≤ 3 + 3 * B → standing s k asked ≡ some (To u) → Sound L F asked u → pointFinite c ≡ true
       → Alone-on (c ∷ asked) (update s inl k u c then') → Continues (length asked + suc B) then then'
       → On-p (c ∷ asked) (update s (keeping k) k u c then)
@@ -98,7 +104,7 @@ module _ (s : Setup) (fL : finite (s .level) ≡ true) (p : Summary) (fine : Fin
 
   -- a further trial, if there is one, and its update of u
   goes-further : (asked : List Point) (e : Further) (u : Bracket) (then : Bracket → Rest Report)
-      (then' : Bracket → Alone)
+      (then' : Bracket → Alone Iterated)
       → length asked + suc B ≤ 3 + 3 * B → Reaches asked u (further s inl k e u then')
       → Continues (length asked + suc B) then then' → On-p asked (further s (keeping k) k e u then)
   unfolding further
@@ -107,23 +113,52 @@ module _ (s : Setup) (fL : finite (s .level) ≡ true) (p : Summary) (fine : Fin
       tries asked u x (λ c. update s (keeping k) k u c then) (λ c. update s inl k u c then') (omega arith) at
       (λ f g fc at'. updates asked u (point x f g) then then' room (at .stands) (at .sound) fc at' go)
 
-  iterates : (then : Bracket → Rest Report) → Continues (3 + 3 * B) then (λ v. end (inr v))
+  -- behind the bracket z just before L2, which is sound too
+  iterates : (then : Bracket → Bracket → Rest Report)
+      → ((before : List Point) (z : Bracket) → Sound L F before z → Continues (3 + 3 * B) (then z) (leaves z))
       → On-p [] (iteration s (keeping k) k w then)
-  unfolding iterationBy afterS1 afterS4 standing
+  unfolding iterationBy afterS4 standing
   iterates then go =
       let ends-fine = and-first (pointFinite (w .a) && pointFinite (w .b)) (pointFinite (p .best)) (fine .numbers) in
       let fa = and-first (pointFinite (w .a)) (pointFinite (w .b)) ends-fine in
       let fb = and-second (pointFinite (w .a)) (pointFinite (w .b)) ends-fine in
       let i = sound-self L w fa fb (fine .in-order) in
-      let L2' : Bracket → Alone = λ v. further s inl k (L2 (s .options .params .gamma) w v) v (λ z. end (inr z)) in
-      let S4' : Point → Bracket → Alone = λ c u. further s inl k (S4 w (c .x) u) u L2' in
+      let L2' : Bracket → Alone Iterated =
+      λ z. further s inl k (L2 (s .options .params .gamma) w z) z (leaves z) in
+      let S4' : Point → Bracket → Alone Iterated = λ c u. further s inl k (S4 w (c .x) u) u L2' in
       tries [] w (secantOf (w .a) (w .b)) _ (λ c. update s inl k w c (S4' c)) (omega arith)
       (record { stands = refl; sound = i; there = not-yet }) (λ f g fc at.
       let c = point (secantOf (w .a) (w .b)) f g in
       updates [] w c _ (S4' c) (omega arith) refl i fc at
       (λ h1 u l1 at1. goes-further h1 (S4 w (c .x) u) u _ L2' (omega arith) at1
-      (λ h2 v l2 at2. goes-further h2 (L2 (s .options .params .gamma) w v) v then (λ z. end (inr z)) (omega arith) at2
-      (λ h3 z l3. go h3 z (omega arith)))))
+      (λ h2 z l2 at2.
+      goes-further h2 (L2 (s .options .params .gamma) w z) z (then z) (leaves z) (omega arith) at2
+      (λ h3 v l3. go h2 z (at2 .sound) h3 v (omega arith)))))
+
+-- ---- where a bracket that is reported stands, and one that is reached
+ends-finite : (a b : Point) → pointFinite a ≡ true → pointFinite b ≡ true → stepsFinite (bracket a b) ≡ true
+ends-finite a b fa fb = both (finite (a .x)) (finite (b .x)) (x-finite a fa) (x-finite b fb)
+
+report-placed : {s : Setup} {p : Summary} → Fine s (last p) → Placed (p .bracket)
+report-placed {s} {p} fine =
+    let a = p .bracket .a in
+    let b = p .bracket .b in
+    let ends-fine = and-first (pointFinite a && pointFinite b) (pointFinite (p .best)) (fine .numbers) in
+    record {
+      steps =
+          ends-finite a b (and-first (pointFinite a) (pointFinite b) ends-fine)
+          (and-second (pointFinite a) (pointFinite b) ends-fine);
+      from-zero = fine .from-zero;
+      in-order = fine .in-order;
+    }
+
+sound-placed : {L : Float} {w : Bracket} {asked : List Point} {u : Bracket} → Placed w
+    → Sound L (on-bracket L w) asked u → Placed u
+sound-placed {L} {w} {asked} {u} at m = record {
+  steps = ends-finite (u .a) (u .b) (m .low .numbers) (m .high .numbers);
+  from-zero = le-trans 0ᶠ (w .a .x) (u .a .x) (at .from-zero) (m .low .lies);
+  in-order = m .in-order;
+}
 
 -- ---- the iterations: what each one that is finished leaves
 module _ (s : Setup) where
@@ -155,27 +190,34 @@ module _ (s : Setup) where
       (λ e. by-cases Q (lowest b a c) (λ e. fb) (λ e. by-cases Q (lowest a b c) (λ e. fa) (λ e. fa)))
 
   pub fine-report : (w : Bracket) (c : Point) (i : ℕ) → pointFinite (w .a) ≡ true → pointFinite (w .b) ≡ true
-      → pointFinite c ≡ true → Ordered w → i ≤ s .options .limit → Fine s (reportOf s w c i)
-  fine-report w c i fa fb fc o few = record {
+      → pointFinite c ≡ true → Ordered w → 0ᶠ ≤ᶠ w .a .x ≡ true → i ≤ s .options .limit → Fine s (reportOf s w c i)
+  fine-report w c i fa fb fc o from few = record {
     numbers = let best = best-finite (w .a) (w .b) c fa fb fc in rw (fa, fb) best;
     in-order = o;
+    from-zero = from;
     counted = few;
   }
 
-  pub rounds-stand : finite (s .level) ≡ true → (n : ℕ) (w : Bracket) (c : Point) (i : ℕ) → n + i ≡ s .options .limit
+  pub rounds-stand : Ready s → (n : ℕ) (w : Bracket) (c : Point) (i : ℕ) → n + i ≡ s .options .limit
       → Fine s (reportOf s w c i) → pointFinite c ≡ true → Stands s [] (rounds s n w c i)
   unfolding roundsBy verdict
-  rounds-stand fL zero w c i total fine fc =
+  rounds-stand ready zero w c i total fine fc =
       decided-stands (record { bracket = w; best = bestOf (w .a) (w .b) c; iterations = i }) _
       (judgeOf s (bestOf (w .a) (w .b) c)) fine refl
       (λ fails. ended {asked = []} fine (omega arith) (words.by-limit fails (omega arith)))
-  rounds-stand fL (suc n) w c i total fine fc =
+  rounds-stand ready (suc n) w c i total fine fc =
       let p : Summary = record { bracket = w; best = bestOf (w .a) (w .b) c; iterations = i } in
       decided-stands p _ (judgeOf s (p .best)) fine refl (λ fails.
-      none-asked (iterates s fL p fine (omega arith) _ (λ asked v few at.
+      none-asked (iterates s (ready .level-finite) p fine (omega arith) _ (λ before z at-L2 asked v few at.
       let m = at .sound in
+      let pw = report-placed fine in
+      let pz = sound-placed pw at-L2 in
+      let pv = sound-placed pw m in
+      let by-tests = fate s (last p) w (at .there) in
+      let closing = closes (ready .gamma-fit) (pw .steps) (pz .steps) by-tests in
       finishes (rounds-report n v c (i + 1)) refl
       (record {
+        before-L2 = z;
         whole = at .there;
         stays = sound-stays m;
         ordered = m .in-order;
@@ -183,6 +225,13 @@ module _ (s : Setup) where
         low-from = m .low .from;
         high-from = m .high .from;
         few = few;
+        before-narrows = sound-within at-L2;
+        before-ordered = pz .in-order;
+        before-from-zero = pz .from-zero;
+        closes = closing;
+        widths = widths (pw .steps) (pz .steps) (pv .steps) (sound-within m) closing;
+        exactly = λ fa fz. exactly pz pv fa fz pw (sound-within at-L2) by-tests;
       })
-      (rounds-stand fL n v c (i + 1) (omega arith)
-      (fine-report v c (i + 1) (m .low .numbers) (m .high .numbers) fc (m .in-order) (omega arith)) fc))))
+      (rounds-stand ready n v c (i + 1) (omega arith)
+      (fine-report v c (i + 1) (m .low .numbers) (m .high .numbers) fc (pv .in-order) (pv .from-zero) (omega arith))
+      fc))))

@@ -16,7 +16,7 @@ use lib.Ieee.Scale.{finite}
 use Rattle.floats.specs.Arithmetic.{_<ᶠ_, _≤ᶠ_, _>ᶠ_, _≥ᶠ_, 0ᶠ, 5ᶠ}
 use Rattle.floats.proofs.Branches.{by-cases, both, and-first, and-second, not-second}
 use Rattle.floats.proofs.Growth.{five-grows}
-use Rattle.floats.proofs.Order.{lt-trans}
+use Rattle.floats.proofs.Order.{zero-real, lt→le, le-refl, le-trans, lt-trans}
 use Rattle.runs.specs.Outcomes.{Why}
 use Rattle.runs.specs.Asking.{Run, end, Rest, keeping}
 use Rattle.hagerzhang_rules.specs.declared.Point.{Point}
@@ -40,10 +40,10 @@ use Rattle.hagerzhang_rules.specs.Iterations.{Alone, startAlone, Plays, 
 use Rattle.hagerzhang_rules.specs.Iterations.{mostInStart, Started-from, at-zero, asked-then, Opens, earlierOf}
 use Rattle.hagerzhang_rules.specs.Iterations.{cameBy, tried, standing, inside, pointFinite}
 use Rattle.hagerzhang_rules.proofs.Apart.{not-both}
-use Rattle.hagerzhang_rules.proofs.Ranges.{Accepted, level-finite, f0-finite, s0-finite, start-finite}
-use Rattle.hagerzhang_rules.proofs.Ranges.{min-finite, max-finite, low-below-high, start-above, start-fits}
-use Rattle.hagerzhang_rules.proofs.Ranges.{s0-below, f0-below-level}
-use Rattle.hagerzhang_rules.proofs.Iterations.{Fine, Stands, Arrives, stays, begins, none-asked}
+use Rattle.hagerzhang_rules.proofs.Ranges.{Accepted, level-finite, f0-finite, s0-finite, gamma-finite}
+use Rattle.hagerzhang_rules.proofs.Ranges.{gamma-above, start-finite, min-finite, max-finite, min-from-zero}
+use Rattle.hagerzhang_rules.proofs.Ranges.{low-below-high, start-above, start-fits, s0-below, f0-below-level}
+use Rattle.hagerzhang_rules.proofs.Iterations.{Ready, Fine, Stands, Arrives, stays, begins, none-asked}
 use Rattle.hagerzhang_rules.proofs.StaysBracket.{lowMeets, highMeets, Frame, Low, SoundCame, is-to, is-on}
 use Rattle.hagerzhang_rules.proofs.StaysBracket.{sound-premise, falling, under, more, now}
 use Rattle.hagerzhang_rules.proofs.Within.{Goes, one-more-asked, one-more-had, ends, asks, narrows}
@@ -60,7 +60,7 @@ start-frame s = record {
     from = Started-from s;
     more = started-more;
     now = λ asked c. asked-then here;
-    inside = λ x. true;
+    inside = λ x. 0ᶠ ≤ᶠ x;
     owed = Unit {0};
   };
   high = record {
@@ -70,7 +70,7 @@ start-frame s = record {
     inside = λ x. true;
     owed = Unit {0};
   };
-  low-up = λ x y h l. refl;
+  low-up = λ x y h l. le-trans 0ᶠ x y h (lt→le x y l);
   high-down = λ x y h l. refl;
 }
 
@@ -113,8 +113,15 @@ module _ (o : Options) (f0 s0 : Float) (ok : Accepted o f0 s0) where
   abbrev q : Params
   q = o .params
 
+  ready : Ready s
+  ready = record {
+    level-finite = level-finite o f0 s0 ok;
+    gamma-fit =
+        both (finite (q .gamma)) (0ᶠ <ᶠ q .gamma) (gamma-finite o f0 s0 ok) (gamma-above o f0 s0 ok);
+  }
+
   none-yet : Fine s noneYet
-  none-yet = record { numbers = refl; in-order = tt; counted = omega arith }
+  none-yet = record { numbers = refl; in-order = tt; from-zero = tt; counted = omega arith }
 
   abbrev Start : List Point → Rest Report → Type 0
   Start = Arrives s noneYet
@@ -124,17 +131,17 @@ module _ (o : Options) (f0 s0 : Float) (ok : Accepted o f0 s0) where
   on c w = rounds s (o .limit) w c 0
 
   opens : (asked : List Point) (c : Point) (w : Bracket) → pointFinite (w .a) ≡ true → pointFinite (w .b) ≡ true
-      → pointFinite c ≡ true → Opens s asked (record { bracket = w; best = bestOf (w .a) (w .b) c; iterations = 0 })
-      → Start asked (on c w)
-  opens asked c w fa fb fc new =
+      → pointFinite c ≡ true → 0ᶠ ≤ᶠ w .a .x ≡ true
+      → Opens s asked (record { bracket = w; best = bestOf (w .a) (w .b) c; iterations = 0 }) → Start asked (on c w)
+  opens asked c w fa fb fc from new =
       begins (rounds-report s (o .limit) w c 0) new
-      (rounds-stand s (level-finite o f0 s0 ok) (o .limit) w c 0 (omega arith)
-      (fine-report s w c 0 fa fb fc (new .ordered) (omega arith)) fc)
+      (rounds-stand s ready (o .limit) w c 0 (omega arith)
+      (fine-report s w c 0 fa fb fc (new .ordered) from (omega arith)) fc)
 
   -- ---- 01's: a, b and c are asked
   module _ (e : Bounds) (is : o .way ≡ Bounded e) where
     -- a question of it
-    bounded-asks : (asked : List Point) (x : Float) (then : Point → Rest Report) (then' : Point → Alone)
+    bounded-asks : (asked : List Point) (x : Float) (then : Point → Rest Report) (then' : Point → Alone Bracket)
         → length asked < 3 → finite x ≡ true → Plays (startAlone s) asked (asking s inl noneYet x then')
         → ((f g : Float) → pointFinite (point x f g) ≡ true
         → Plays (startAlone s) (point x f g ∷ asked) (then' (point x f g))
@@ -148,7 +155,7 @@ module _ (o : Options) (f0 s0 : Float) (ok : Accepted o f0 s0) where
     bounded-stands : Start [] (starting s (keeping noneYet) noneYet (Bounded e) on)
     unfolding starting askHigh askStart
     bounded-stands =
-        let alone-on : Point → Bracket → Alone = λ c w. end (inr w) in
+        let alone-on : Point → Bracket → Alone Bracket = λ c w. end (inr w) in
         let begun = subst (λ (w : Way). Plays (startAlone s) [] (starting s inl noneYet w alone-on)) is not-yet in
         bounded-asks [] (e .min) (λ a. askHigh s (keeping noneYet) noneYet (e .max) a on)
         (λ a. askHigh s inl noneYet (e .max) a alone-on) (omega arith)
@@ -162,7 +169,7 @@ module _ (o : Options) (f0 s0 : Float) (ok : Accepted o f0 s0) where
         bounded-asks (b ∷ a ∷ []) (q .start) (λ c. on c w) (λ c. alone-on c w) (omega arith)
         (start-finite o f0 s0 ok) at-b (λ f g fc at-c.
         let c = point (q .start) f g in
-        opens (c ∷ b ∷ a ∷ []) c w fa fb fc (record {
+        opens (c ∷ b ∷ a ∷ []) c w fa fb fc (min-from-zero o f0 s0 ok e is) (record {
           whole = at-c;
           none-finished = refl;
           ordered = low-below-high o f0 s0 ok e is;
@@ -181,10 +188,10 @@ module _ (o : Options) (f0 s0 : Float) (ok : Accepted o f0 s0) where
     most-is : mostInStart o ≡ 1 + K + o .budget
     most-is = ap (λ (w : Way). mostBy w (o .budget)) is
 
-    abbrev By-itself : List Point → Alone → Type 0
+    abbrev By-itself : List Point → Alone Bracket → Type 0
     By-itself = Plays (startAlone s)
 
-    abbrev Then : (Bracket → Rest Report) → (Bracket → Alone) → Type 0
+    abbrev Then : (Bracket → Rest Report) → (Bracket → Alone Bracket) → Type 0
     Then = Goes s noneYet (startAlone s) (start-frame s) (mostInStart o)
 
     stands-so : (asked : List Point) (d : Point) → standing s noneYet asked ≡ none
@@ -204,7 +211,7 @@ module _ (o : Options) (f0 s0 : Float) (ok : Accepted o f0 s0) where
     zero-low asked = record {
       from = at-zero refl;
       numbers = rw (f0-finite o f0 s0 ok, s0-finite o f0 s0 ok);
-      lies = refl;
+      lies = le-refl 0ᶠ zero-real;
       stays = λ u. both (s0 <ᶠ 0ᶠ) (f0 ≤ᶠ L) (s0-below o f0 s0 ok K is) (f0-below-level o f0 s0 ok K is);
     }
 
@@ -215,7 +222,7 @@ module _ (o : Options) (f0 s0 : Float) (ok : Accepted o f0 s0) where
         let fdx = and-first (finite (d .x)) (finite (d .f)) (and-first (finite (d .x) && finite (d .f)) _ fd) in
         let grows = five-grows (d .x) (early .f64) fdx (early .above) fx in
         record {
-          can-be-low = now fd refl meets;
+          can-be-low = now fd (lt→le 0ᶠ (d .x) (early .above)) meets;
           shorter = grows;
           above = lt-trans 0ᶠ (d .x) (longerOf d) (early .above) grows;
           f64 = is-true (fits binary64 (longerOf d)) (mul-fits binary64 5ᶠ (d .x));
@@ -230,7 +237,7 @@ module _ (o : Options) (f0 s0 : Float) (ok : Accepted o f0 s0) where
 
     -- d was asked behind these, and the step may grow n times more: it was enough, or what is shown of one too short
     judged : (n : ℕ) (asked : List Point) (d : Point) (grown : Grown) (then : Bracket → Rest Report)
-        (then' : Bracket → Alone)
+        (then' : Bracket → Alone Bracket)
         → length asked + n ≡ K → standing s noneYet asked ≡ none → standing s noneYet (d ∷ asked) ≡ cameBy grown
         → Early asked d → pointFinite d ≡ true → Tells L low (earlierOf s asked) d grown
         → By-itself (d ∷ asked) (growth s inl noneYet n d grown then') → Then then then'
@@ -248,7 +255,7 @@ module _ (o : Options) (f0 s0 : Float) (ok : Accepted o f0 s0) where
     judged n asked d TooShort then then' count before stands early fd (too-short meets) at go short =
         short meets stands at
 
-    grows : (n : ℕ) (asked : List Point) (d : Point) (then : Bracket → Rest Report) (then' : Bracket → Alone)
+    grows : (n : ℕ) (asked : List Point) (d : Point) (then : Bracket → Rest Report) (then' : Bracket → Alone Bracket)
         → length asked + n ≡ K → standing s noneYet asked ≡ none → Early asked d → pointFinite d ≡ true
         → By-itself (d ∷ asked) (growth s inl noneYet n d (grownOf L low (earlierOf s asked) d) then')
         → Then then then'
@@ -280,7 +287,7 @@ module _ (o : Options) (f0 s0 : Float) (ok : Accepted o f0 s0) where
     growing-stands : Start [] (starting s (keeping noneYet) noneYet (Growing K) on)
     unfolding starting standing
     growing-stands =
-        let alone-on : Point → Bracket → Alone = λ c w. end (inr w) in
+        let alone-on : Point → Bracket → Alone Bracket = λ c w. end (inr w) in
         let begun = subst (λ (w : Way). By-itself [] (starting s inl noneYet w alone-on)) is not-yet in
         let fx = start-finite o f0 s0 ok in
         let up = start-above o f0 s0 ok K is in
@@ -295,7 +302,7 @@ module _ (o : Options) (f0 s0 : Float) (ok : Accepted o f0 s0) where
         (record { can-be-low = zero-low []; shorter = up; above = up; f64 = start-fits o f0 s0 ok K is }) fc at
         (λ asked u few comes.
         let m = comes .sound in
-        opens asked c u (m .low .numbers) (m .high .numbers) fc (record {
+        opens asked c u (m .low .numbers) (m .high .numbers) fc (m .low .lies) (record {
           whole = comes .there;
           none-finished = refl;
           ordered = m .in-order;

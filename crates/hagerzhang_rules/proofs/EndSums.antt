@@ -6,20 +6,20 @@ use lib.IntN.{negsuc}
 use lib.Ieee.{fin, add, sub, mul, div, neg, le, lt, eq, ofBits, ofInt}
 use Rattle.floats.specs.Numerals.{quarters}
 use Rattle.hagerzhang_rules.specs.declared.Further.the-variants.{At}
-use Rattle.hagerzhang_rules.specs.Rules.{updateOf, S2, S3, L2, trial, U3, updating, further, afterS1, iterationBy}
+use Rattle.hagerzhang_rules.specs.Rules.{updateOf, S2, S3, L2, trial, U3, updating, further, iterationBy}
 use Rattle.hagerzhang_rules.specs.MarkedSums.{left}
-use Rattle.hagerzhang_rules.specs.EndSums.{halved, low-flat, former-M8, EndSums}
+use Rattle.hagerzhang_rules.specs.EndSums.{asked-by-L2, low-flat, former-M8, EndSums}
 
 -- 1.5 by way of its own form: the checker takes too long where it compares the two quotients as they are written
-halves : halved low-flat low-flat ≡ At (quarters 6)
+halves : asked-by-L2 low-flat low-flat ≡ At (quarters 6)
 unfolding L2 add sub mul div lt ofBits ofInt
 halves =
-    let as-halves : halved low-flat low-flat ≡ At (fin false 3 (negsuc 0)) = refl in
+    let as-halves : asked-by-L2 low-flat low-flat ≡ At (fin false 3 (negsuc 0)) = refl in
     let as-quarters : fin false 3 (negsuc 0) ≡ quarters 6 = refl in
     as-halves ∙ ap At as-quarters
 
 pub end-sums : EndSums
-unfolding former-M8 left iterationBy afterS1 further trial U3 updating updateOf S2 S3 L2
+unfolding former-M8 left iterationBy further trial U3 updating updateOf S2 S3 L2
     add sub mul div neg le lt eq ofBits ofInt
 end-sums = record {
   low-end = (refl, λ f g. refl, refl, halves);

@@ -16,9 +16,10 @@ use Rattle.hagerzhang_rules.specs.declared.Grown.{Grown}
 use Rattle.hagerzhang_rules.specs.declared.Judged.{Judged}
 use Rattle.hagerzhang_rules.specs.declared.Judged.the-variants.{Holds, Fails}
 use Rattle.hagerzhang_rules.proofs.Passes as passes
-use Rattle.hagerzhang_rules.specs.Rules.{point, answerFinite, zeroOf, grownOf, S4, bestOf, judgeOf, iteration}
-use Rattle.hagerzhang_rules.specs.Rules.{growth, starting, Summary, Report, noneYet, last, reportOf, decided}
-use Rattle.hagerzhang_rules.specs.Rules.{verdict, rounds, roundsBy, hagerZhang, hagerZhangBy}
+use Rattle.hagerzhang_rules.specs.Rules.{point, answerFinite, zeroOf, grownOf, S4, L2, bestOf, judgeOf, further}
+use Rattle.hagerzhang_rules.specs.Rules.{afterS4, iteration, iterationBy, growth, starting, Summary, Report}
+use Rattle.hagerzhang_rules.specs.Rules.{noneYet, last, reportOf, decided, verdict, rounds, roundsBy, hagerZhang}
+use Rattle.hagerzhang_rules.specs.Rules.{hagerZhangBy}
 
 -- ---- whatever a run reports is P
 data Reports (P : Report → Type 0) : Rest Report → Type 0 where
@@ -39,12 +40,14 @@ module _ (P : Report → Type 0) (s : Setup) (k : Report) (here : P k) where
   abbrev Q : (Unit {0} → Rest Report) → Type 0
   Q r = Reports P (r tt)
 
-  iterates : (w : Bracket) (then : Bracket → Rest Report) → ((u : Bracket) → Reports P (then u))
+  iterates : (w : Bracket) (then : Bracket → Bracket → Rest Report) → ((z v : Bracket) → Reports P (then z v))
       → Reports P (iteration s (keeping k) k w then)
+  unfolding iterationBy afterS4
   iterates w then go =
-      passes.iterates s (keeping k) k Q (λ why. over here) (λ x then go. waits here go) (λ i. S4) w (λ i. then)
-      (λ cx u kept. passes.after-S1 s (keeping k) k Q (λ why. over here) (λ x then go. waits here go) (S4 w cx u) w u
-      (λ i. then) go)
+      passes.through-S1 s (keeping k) k Q (λ why. over here) (λ x then go. waits here go) w
+      (λ i c u. further s (keeping k) k (S4 w (c .x) u) u (λ v. afterS4 s (keeping k) k w v (then v))) (λ c u kept.
+      passes.goes-on-further s (keeping k) k Q (λ why. over here) (λ x then go. waits here go) (S4 w (c .x) u) u
+      (L2 (s .options .params .gamma) w) (λ i. then) go)
 
   grows : (n : ℕ) (t : Point) (grown : Grown) (then : Bracket → Rest Report) → ((u : Bracket) → Reports P (then u))
       → Reports P (growth s (keeping k) k n t grown then)
@@ -68,7 +71,7 @@ module _ (s : Setup) where
   rounds-of zero w c i = decided-of (reportOf s w c i) _ _ (judgeOf s (bestOf (w .a) (w .b) c)) refl (over refl)
   rounds-of (suc n) w c i =
       decided-of (reportOf s w c i) _ _ (judgeOf s (bestOf (w .a) (w .b) c)) refl
-      (iterates (OfC c) s (reportOf s w c i) refl w _ (λ v. rounds-of n v c (i + 1)))
+      (iterates (OfC c) s (reportOf s w c i) refl w _ (λ z v. rounds-of n v c (i + 1)))
 
   first-answered : (K : ℕ) (y : Reply)
       → Reports (OfC (point (s .options .params .start) (y .0) (y .1)))

@@ -14,6 +14,8 @@ use lib.Dec.{ltb}
 use lib.ListN.{length}
 use lib.Ieee.{Float}
 use borrow.Author.Tests.{lt-ltb, le-ltb}
+use lib.Ieee.Scale.{finite}
+use Rattle.floats.specs.Arithmetic.{_≤ᶠ_, 0ᶠ}
 use Rattle.floats.proofs.Branches.{by-cases}
 use Rattle.runs.specs.Outcomes.{refusal, answerNotFinite}
 use Rattle.runs.specs.Asking.{ask, end, Rest, Ended, endWith, reported}
@@ -21,19 +23,31 @@ use Rattle.hagerzhang_rules.specs.declared.Point.{Point}
 use Rattle.hagerzhang_rules.specs.declared.Setup.{Setup}
 use Rattle.hagerzhang_rules.specs.Rules.{point, answerFinite, Summary, Report, noneYet, last, iterationsIn}
 use Rattle.hagerzhang_rules.specs.Brackets.{Ordered}
+use Rattle.hagerzhang_rules.specs.HowFast.{gammaFit}
 use Rattle.hagerzhang_rules.specs.Iterations.{progress, mostInStart, mostInIteration, Opens, Whole, Brings}
-use Rattle.hagerzhang_rules.specs.Iterations.{as-before, first, finished-one}
-use Rattle.hagerzhang_rules.specs.Iterations.{AskedBecause, EndedBecause, reportFinite}
+use Rattle.hagerzhang_rules.specs.Iterations.{as-before, first, finished-one, AskedBecause, EndedBecause}
+use Rattle.hagerzhang_rules.specs.Iterations.{reportFinite}
 use Rattle.hagerzhang_rules.proofs.UnderWay.{since}
+
+-- ---- what is so of the setup of a start that no row refuses
+pub record Ready (s : Setup) : Type 0 where
+  pub level-finite : finite (s .level) ≡ true
+  pub gamma-fit : gammaFit (s .options .params .gamma) ≡ true
 
 -- ---- what is so of every report
 abbrev pub In-order : Report → Type 0
 In-order noneYet = Unit {0}
 In-order (last p) = Ordered (p .bracket)
 
+-- no step is negative: a start's are not, and an iteration keeps within
+abbrev pub From-zero : Report → Type 0
+From-zero noneYet = Unit {0}
+From-zero (last p) = 0ᶠ ≤ᶠ p .bracket .a .x ≡ true
+
 pub record Fine (s : Setup) (k : Report) : Type 0 where
   pub numbers : reportFinite k ≡ true
   pub in-order : In-order k
+  pub from-zero : From-zero k
   pub counted : iterationsIn k ≤ s .options .limit
 
 -- how many answers the start, or an iteration, takes at most

@@ -3,8 +3,10 @@ pub mod StartSums
 pub mod Ranges
 pub mod Apart
 pub mod Passes
+pub mod HowFast
 pub mod ZeroSlope
 pub mod EndSums
+pub mod HowFastSums
 pub mod StaysBracket
 pub mod UnderWay
 pub mod Iterations

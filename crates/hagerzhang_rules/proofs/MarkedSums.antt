@@ -11,7 +11,7 @@ use mathlib.Core.Option.{some}
 use Rattle.hagerzhang_rules.specs.declared.Further.the-variants.{Nothing, At}
 use Rattle.hagerzhang_rules.specs.declared.Came.the-variants.{To}
 use Rattle.hagerzhang_rules.specs.Rules.{point, answerFinite, secantOf, S4, update, updateOf, narrowedOf, S2, S3}
-use Rattle.hagerzhang_rules.specs.Rules.{L2, bestOver, trial, between, U3, updating, further, afterS4, afterS1}
+use Rattle.hagerzhang_rules.specs.Rules.{L2, bestOver, trial, between, U3, updating, further, afterS4}
 use Rattle.hagerzhang_rules.specs.Rules.{iterationBy}
 use Rattle.hagerzhang_rules.specs.MarkedSums.{setup, a, Asks, by-number, becomes, updated-with, left, steps, ½}
 use Rattle.hagerzhang_rules.specs.MarkedSums.{low, at-minimum, iterated, accepts, MarkedSums}
@@ -20,7 +20,8 @@ use Rattle.hagerzhang_rules.specs.MarkedSums.{low, at-minimum, iterated,
 abbrev behind : Float → Float → Asks
 behind f g =
     update (setup 100) by-number tt at-minimum (point (secantOf a low) f g) λ u.
-    afterS1 (setup 100) by-number tt (S4 at-minimum (secantOf a low) u) at-minimum u becomes
+    further (setup 100) by-number tt (S4 at-minimum (secantOf a low) u) u λ v.
+    afterS4 (setup 100) by-number tt at-minimum v becomes
 
 unchanged : (f g : Float) → updateOf (setup 100 .level) at-minimum (point (secantOf a low) f g) ≡ some (To at-minimum)
 unfolding updateOf add sub mul div neg le lt eq ofBits ofInt
@@ -35,7 +36,7 @@ unfolding L2 add sub mul div neg le lt eq ofBits ofInt
 halves = refl
 
 then-½ : (f g : Float) → steps (behind f g) [] ≡ ½ ∷ []
-unfolding steps afterS1 afterS4 further trial U3 updating ofBits ofInt mul div neg
+unfolding steps afterS4 further trial U3 updating ofBits ofInt mul div neg
 then-½ f g = rw (unchanged f g, no-e, halves)
 
 goes-on : (f g : Float) → answerFinite f g ≡ true → steps iterated ((f, g) ∷ []) ≡ whole 1 ∷ ½ ∷ []
@@ -45,7 +46,7 @@ goes-on f g e =
     ∙ ap (λ (xs : List Float). whole 1 ∷ xs) (then-½ f g)
 
 pub marked-sums : MarkedSums
-unfolding accepts updated-with left steps iterated iterationBy afterS1 afterS4 further trial between U3 updating
+unfolding accepts updated-with left steps iterated iterationBy afterS4 further trial between U3 updating
     updateOf narrowedOf S2 S3 L2 bestOver add sub mul div neg le lt eq ofBits ofInt
 marked-sums = record {
   setup-accepted = (refl, refl);

@@ -1,9 +1,11 @@
 -- One pass through the flow of the rules, for runs that differ in what comes behind, each with an index i: what holds
--- of them where all are refused, and passes through a question, passes through U3, an update, a further trial, an
--- iteration and either start. What is known of a bracket that an update reaches is handed on: each end is the former
--- end, or lies inside by U0's test (`Kept`). Assumes nothing.
+-- of them where all are refused, and passes through a question, passes through U3, an update, a further trial, S1 and
+-- either start. What is known of a bracket that an update reaches is handed on: each end is the former
+-- end, or lies inside by U0's test (`Kept`), or whatever else its answers keep. And one of these: what a run comes to,
+-- by any answers (`Ends`). Assumes nothing.
 use mathlib.Core.Path.{_≡_, refl, sym, _∙_, subst}
 use mathlib.Core.Bool.{Bool, true, false, cond, _&&_, false≢true}
+use mathlib.Core.List.{List}
 use mathlib.Core.Logic.{_⊎_, inl, inr}
 use mathlib.Core.Option.{Option, some, none}
 use Prim.Native.Nat.{ℕ, zero, suc}
@@ -26,9 +28,10 @@ use Rattle.hagerzhang_rules.specs.declared.Grown.the-variants.{Enough, T
 use Rattle.hagerzhang_rules.specs.declared.Further.{Further}
 use Rattle.hagerzhang_rules.specs.declared.Further.the-variants.{Nothing, At}
 use Rattle.hagerzhang_rules.specs.Rules.{point, bracket, answerFinite, outside, updateOf, middleOf, isBetween}
-use Rattle.hagerzhang_rules.specs.Rules.{narrowedOf, zeroOf, grownOf, longerOf, secantOf, L2, Giving, asking}
-use Rattle.hagerzhang_rules.specs.Rules.{trial, between, U3, updating, update, further, afterS4, afterS1}
-use Rattle.hagerzhang_rules.specs.Rules.{iterationBy, askStart, askHigh, enough, growth, starting}
+use Rattle.hagerzhang_rules.specs.Rules.{narrowedOf, zeroOf, grownOf, longerOf, secantOf, asking, trial, between}
+use Rattle.hagerzhang_rules.specs.Rules.{U3, updating, update, further, askStart, askHigh, enough, growth}
+use Rattle.hagerzhang_rules.specs.Rules.{starting, Report}
+use Rattle.hagerzhang_rules.specs.Iterations.{Alone, Plays, not-yet, then-asked}
 
 -- ---- the ends of what an update of w comes to
 abbrev pub KeptEnd : Bracket → Point → Point → Type 0
@@ -38,20 +41,21 @@ pub data Kept (w : Bracket) : Came → Type 0 where
   kept-to : {u : Bracket} → KeptEnd w (w .a) (u .a) → KeptEnd w (w .b) (u .b) → Kept w (To u)
   kept-on : {h : Point} {k : Float} → KeptEnd w (w .a) h → k ≥ᶠ w .b .x ≡ false → Kept w (On h k)
 
-data KeptUpdate (w : Bracket) : Option Came → Type 0 where
-  kept-some : {came : Came} → Kept w came → KeptUpdate w (some came)
-  kept-none : KeptUpdate w none
+-- what U0 to U2 come to is P, if it is anything
+pub data IfAny (P : Came → Type 0) : Option Came → Type 0 where
+  if-some : {came : Came} → P came → IfAny P (some came)
+  if-none : IfAny P none
 
-updated-kept : (L : Float) (w : Bracket) (c : Point) → KeptUpdate w (updateOf L w c)
+updated-kept : (L : Float) (w : Bracket) (c : Point) → IfAny (Kept w) (updateOf L w c)
 unfolding updateOf
 updated-kept L w c =
-    let Q : Option Came → Type 0 = KeptUpdate w in
-    by-cases Q (outside w c) (λ e. kept-some (kept-to (inl refl) (inl refl)))
-    (λ inside. by-cases Q (c .g ≥ᶠ 0ᶠ) (λ e. kept-some (kept-to (inl refl) (inr inside)))
-    (λ e. by-cases Q (c .g <ᶠ 0ᶠ && c .f ≤ᶠ L) (λ e. kept-some (kept-to (inr inside) (inl refl)))
+    let Q : Option Came → Type 0 = IfAny (Kept w) in
+    by-cases Q (outside w c) (λ e. if-some (kept-to (inl refl) (inl refl)))
+    (λ inside. by-cases Q (c .g ≥ᶠ 0ᶠ) (λ e. if-some (kept-to (inl refl) (inr inside)))
+    (λ e. by-cases Q (c .g <ᶠ 0ᶠ && c .f ≤ᶠ L) (λ e. if-some (kept-to (inr inside) (inl refl)))
     (λ e. by-cases Q (c .g <ᶠ 0ᶠ && c .f >ᶠ L)
-    (λ e. kept-some (kept-on (inl refl) (neither-second (c .x ≤ᶠ w .a .x) (c .x ≥ᶠ w .b .x) inside)))
-    (λ e. kept-none))))
+    (λ e. if-some (kept-on (inl refl) (neither-second (c .x ≤ᶠ w .a .x) (c .x ≥ᶠ w .b .x) inside)))
+    (λ e. if-none))))
 
 -- a step of U3 lies inside
 module _ (w : Bracket) (h : Point) (k : Float) (d : Point) (strictly : isBetween h k (d .x) ≡ true) where
@@ -76,6 +80,11 @@ module _ (w : Bracket) (h : Point) (k : Float) (d : Point) (strictly : isBetween
       by-cases Q (d .g ≥ᶠ 0ᶠ) (λ e. kept-to low (inr inside))
       (λ e. by-cases Q (d .f ≤ᶠ L) (λ e. kept-on (inr inside) high) (λ e. kept-on low (below-high high)))
 
+-- it is kept by each answer of U3, where L is the level
+abbrev pub StaysBy : Float → (Came → Type 0) → Type 0
+StaysBy L P =
+    (h : Point) (k : Float) (d : Point) → isBetween h k (d .x) ≡ true → P (On h k) → P (narrowedOf L h k d)
+
 -- ---- the pass
 module _ {I K R : Type 0} (s : Setup) (refuse : Why → R) (kept : K) (Q : (I → Run K R) → Type 0)
     (over : (why : Why) → Q (λ i. end (refuse why)))
@@ -97,16 +106,14 @@ module _ {I K R : Type 0} (s : Setup) (refuse : Why → R) (kept : K) (Q : (I �
       → Q (λ i. asking s refuse kept x (then i))
   asks x then go = waits x _ (λ f g. by-test (answerFinite f g) (λ e. go f g) (λ e. over _))
 
-  tries : (x : Float) (then : OnPoint) → ((f g : Float) → Q (λ i. then i (point x f g)))
+  pub tries : (x : Float) (then : OnPoint) → (finite x ≡ true → (f g : Float) → Q (λ i. then i (point x f g)))
       → Q (λ i. trial s refuse kept x (then i))
   unfolding trial
-  tries x then go = by-test (finite x) (λ e. asks x then go) (λ e. over _)
+  tries x then go = by-test (finite x) (λ e. asks x then (go e)) (λ e. over _)
 
   -- U3, and whatever is kept by each of its answers
-  narrows : (P : Came → Type 0)
-      → ((h : Point) (k : Float) (d : Point) → isBetween h k (d .x) ≡ true → P (On h k)
-      → P (narrowedOf (s .level) h k d))
-      → (n : ℕ) (came : Came) → P came → (then : OnBracket) → ((u : Bracket) → P (To u) → Q (λ i. then i u))
+  narrows : (P : Came → Type 0) → StaysBy (s .level) P → (n : ℕ) (came : Came) → P came → (then : OnBracket)
+      → ((u : Bracket) → P (To u) → Q (λ i. then i u))
       → Q (λ i. U3 s refuse kept n came (then i))
   unfolding U3 between
   narrows P stays zero (To u) p then go = go u p
@@ -121,37 +128,37 @@ module _ {I K R : Type 0} (s : Setup) (refuse : Why → R) (kept : K) (Q : (I �
       (λ e. over _))
       (λ e. over _)
 
-  updates-by : (w : Bracket) (o : Option Came) → KeptUpdate w o → (then : OnBracket)
-      → ((u : Bracket) → Kept w (To u) → Q (λ i. then i u)) → Q (λ i. updating s refuse kept o (then i))
+  pub updates-by : (P : Came → Type 0) → StaysBy (s .level) P → (o : Option Came) → IfAny P o → (then : OnBracket)
+      → ((u : Bracket) → P (To u) → Q (λ i. then i u)) → Q (λ i. updating s refuse kept o (then i))
   unfolding updating
-  updates-by w (some came) (kept-some p) then go =
-      narrows (Kept w) (λ h k d strictly. narrowed-kept w h k d strictly (s .level)) (s .options .budget) came p then go
-  updates-by w none p then go = over _
+  updates-by P stays (some came) (if-some p) then go = narrows P stays (s .options .budget) came p then go
+  updates-by P stays none p then go = over _
 
   pub updates : (w : Bracket) (c : Point) (then : OnBracket) → ((u : Bracket) → Kept w (To u) → Q (λ i. then i u))
       → Q (λ i. update s refuse kept w c (then i))
-  updates w c = updates-by w (updateOf (s .level) w c) (updated-kept (s .level) w c)
+  updates w c =
+      updates-by (Kept w) (λ h k d strictly. narrowed-kept w h k d strictly (s .level)) (updateOf (s .level) w c)
+      (updated-kept (s .level) w c)
 
-  goes-further : (e : Further) (u : Bracket) (then : OnBracket) → ((v : Bracket) → Q (λ i. then i v))
+  pub goes-further : (e : Further) (u : Bracket) (then : OnBracket) → ((v : Bracket) → Q (λ i. then i v))
       → Q (λ i. further s refuse kept e u (then i))
   unfolding further
   goes-further Nothing u then go = go u
-  goes-further (At x) u then go = tries x _ (λ f g. updates u (point x f g) then (λ v p. go v))
+  goes-further (At x) u then go = tries x _ (λ fx f g. updates u (point x f g) then (λ v p. go v))
 
-  -- S4 with an e, or none, and L2
-  pub after-S1 : (e : Further) (w u : Bracket) (then : OnBracket) → ((v : Bracket) → Q (λ i. then i v))
-      → Q (λ i. afterS1 s refuse kept e w u (then i))
-  unfolding afterS1 afterS4
-  after-S1 e w u then go =
-      goes-further e u _ (λ v. goes-further (L2 (s .options .params .gamma) w v) v then go)
+  -- two in a row, the second by what the first came to
+  pub goes-on-further : (e : Further) (u : Bracket) (e' : Bracket → Further) (then : I → Bracket → Bracket → Run K R)
+      → ((v z : Bracket) → Q (λ i. then i v z))
+      → Q (λ i. further s refuse kept e u (λ v. further s refuse kept (e' v) v (then i v)))
+  goes-on-further e u e' then go = goes-further e u _ (λ v. goes-further (e' v) v (λ i. then i v) (go v))
 
-  -- an iteration, each run by its own rule of e: they are compared behind S1
-  pub iterates : (given : I → Giving) (w : Bracket) (then : OnBracket)
-      → ((cx : Float) (u : Bracket) → Kept w (To u) → Q (λ i. afterS1 s refuse kept (given i w cx u) w u (then i)))
-      → Q (λ i. iterationBy s refuse kept (given i) w (then i))
-  unfolding iterationBy
-  iterates given w then go =
-      tries (secantOf (w .a) (w .b)) _ (λ f g. updates w (point (secantOf (w .a) (w .b)) f g) _ (go _))
+  -- S1: its trial, and the update with it
+  pub through-S1 : (w : Bracket) (then : I → Point → Bracket → Run K R)
+      → ((c : Point) (u : Bracket) → Kept w (To u) → Q (λ i. then i c u))
+      → Q (λ i. trial s refuse kept (secantOf (w .a) (w .b)) (λ c. update s refuse kept w c (then i c)))
+  through-S1 w then go =
+      let x = secantOf (w .a) (w .b) in
+      tries x _ (λ fx f g. updates w (point x f g) (λ i. then i (point x f g)) (go (point x f g)))
 
   -- ---- either start
   enoughs : (grown : Grown) (then : OnBracket) (otherwise : I → Run K R) → ((u : Bracket) → Q (λ i. then i u))
@@ -167,7 +174,7 @@ module _ {I K R : Type 0} (s : Setup) (refuse : Why → R) (kept : K) (Q : (I �
   grows zero t grown then go = enoughs grown then _ go (over _)
   grows (suc n) t grown then go =
       enoughs grown then _ go
-      (tries (longerOf t) _ (λ f g.
+      (tries (longerOf t) _ (λ fx f g.
       let d = point (longerOf t) f g in
       grows n d (grownOf (s .level) (zeroOf s) t d) then go))
 
@@ -197,3 +204,28 @@ module _ {I K R : Type 0} (s : Setup) (refuse : Why → R) (kept : K) (Q : (I �
       asks (s .options .params .start) (λ i c. growth s refuse kept n c (first c) (then i c)) (λ f g.
       let c = point (s .options .params .start) f g in
       grows n c (first c) (λ i. then i c) (go c))
+
+-- ---- one run of the start or an iteration by itself: whatever it comes to, by any answers, is P
+pub data Ends {R : Type 0} (P : R → Type 0) : Alone R → Type 0 where
+  waiting : {k : Report} {x : Float} {then : Float → Float → Alone R} → ((f g : Float) → Ends P (then f g))
+      → Ends P (ask k x then)
+  refused : {why : Why} → Ends P (end (inl why))
+  reached : {r : R} → P r → Ends P (end (inr r))
+
+abbrev pub OneEnds : {R : Type 0} → (R → Type 0) → (Unit {0} → Alone R) → Type 0
+OneEnds P r = Ends P (r tt)
+
+module _ {R : Type 0} {P : R → Type 0} where
+  answered : {k : Report} {x : Float} {then : Float → Float → Alone R} → Ends P (ask k x then) → (f g : Float)
+      → Ends P (then f g)
+  answered (waiting go) f g = go f g
+
+  plays-on : {r r' : Alone R} {asked : List Point} → Ends P r → Plays r asked r' → Ends P r'
+  plays-on from not-yet = from
+  plays-on from (then-asked before f g) = answered (plays-on from before) f g
+
+  at-end : {r : R} → Ends P (end (inr r)) → P r
+  at-end (reached p) = p
+
+  pub ends-so : {r : Alone R} {asked : List Point} {v : R} → Ends P r → Plays r asked (end (inr v)) → P v
+  ends-so from plays = at-end (plays-on from plays)

@@ -11,8 +11,8 @@ use lib.Dec.{leb}
 use lib.Ieee.{Float, nan, inf, fin, binary64, fits}
 use lib.Ieee.Scale.{finite}
 use borrow.Author.Tests.{leb-true, not-false}
-use Rattle.floats.specs.Arithmetic.{_⊕_, _⊗_, _<ᶠ_, _≤ᶠ_, _≥ᶠ_, 0ᶠ, 1ᶠ}
-use Rattle.floats.proofs.Branches.{both, and-first, and-second}
+use Rattle.floats.specs.Arithmetic.{_⊗_, _<ᶠ_, _≤ᶠ_, 0ᶠ, 1ᶠ}
+use Rattle.floats.proofs.Branches.{and-first, and-second}
 use Rattle.floats.proofs.Growth.{add-up, times-not-negative}
 use Rattle.floats.proofs.Order.{finite→real, zero-real, nle→lt}
 use Rattle.numbers.specs.Numbers.{absOf}
@@ -106,6 +106,14 @@ module _ (o : Options) (f0 s0 : Float) (ok : Accepted o f0 s0) where
   epsilon-finite : finite (p .epsilon) ≡ true
   epsilon-finite = and-second (finite (p .delta) && finite (p .sigma)) (finite (p .epsilon)) epsilon-first
 
+  pub gamma-finite : finite (p .gamma) ≡ true
+  gamma-finite =
+      and-second (finite (p .delta) && finite (p .sigma) && finite (p .epsilon) && finite (p .theta))
+      (finite (p .gamma))
+      (first-of-three
+      (finite (p .delta) && finite (p .sigma) && finite (p .epsilon) && finite (p .theta) && finite (p .gamma))
+      (finite (p .eta)) (finite (p .start)) params-finite)
+
   pub start-finite : finite (p .start) ≡ true
   start-finite =
       and-second
@@ -126,6 +134,13 @@ module _ (o : Options) (f0 s0 : Float) (ok : Accepted o f0 s0) where
   epsilon-in-range =
       first-of-three (0ᶠ ≤ᶠ p .epsilon) (0ᶠ <ᶠ p .theta) (p .theta <ᶠ 1ᶠ)
       (first-of-three (0ᶠ ≤ᶠ p .epsilon && 0ᶠ <ᶠ p .theta && p .theta <ᶠ 1ᶠ) (0ᶠ <ᶠ p .gamma) (p .gamma <ᶠ 1ᶠ)
+      (and-first (0ᶠ ≤ᶠ p .epsilon && 0ᶠ <ᶠ p .theta && p .theta <ᶠ 1ᶠ && 0ᶠ <ᶠ p .gamma && p .gamma <ᶠ 1ᶠ)
+      (0ᶠ <ᶠ p .eta) (ranges .0)))
+
+  pub gamma-above : 0ᶠ <ᶠ p .gamma ≡ true
+  gamma-above =
+      and-second (0ᶠ ≤ᶠ p .epsilon && 0ᶠ <ᶠ p .theta && p .theta <ᶠ 1ᶠ) (0ᶠ <ᶠ p .gamma)
+      (and-first (0ᶠ ≤ᶠ p .epsilon && 0ᶠ <ᶠ p .theta && p .theta <ᶠ 1ᶠ && 0ᶠ <ᶠ p .gamma) (p .gamma <ᶠ 1ᶠ)
       (and-first (0ᶠ ≤ᶠ p .epsilon && 0ᶠ <ᶠ p .theta && p .theta <ᶠ 1ᶠ && 0ᶠ <ᶠ p .gamma && p .gamma <ᶠ 1ᶠ)
       (0ᶠ <ᶠ p .eta) (ranges .0)))
 
@@ -152,10 +167,14 @@ module _ (o : Options) (f0 s0 : Float) (ok : Accepted o f0 s0) where
     pub max-finite : finite (e .max) ≡ true
     max-finite = and-second (finite (e .min)) (finite (e .max)) bounds-finite
 
+    bounds-in-range : (0ᶠ ≤ᶠ e .min && e .min <ᶠ e .max) ≡ true
+    bounds-in-range = subst (λ (w : Way). wayInRange w (p .start) ≡ true) is (ranges .1)
+
+    pub min-from-zero : 0ᶠ ≤ᶠ e .min ≡ true
+    min-from-zero = and-first (0ᶠ ≤ᶠ e .min) (e .min <ᶠ e .max) bounds-in-range
+
     pub low-below-high : (e .min <ᶠ e .max) ≡ true
-    low-below-high =
-        and-second (0ᶠ ≤ᶠ e .min) (e .min <ᶠ e .max)
-        (subst (λ (w : Way). wayInRange w (p .start) ≡ true) is (ranges .1))
+    low-below-high = and-second (0ᶠ ≤ᶠ e .min) (e .min <ᶠ e .max) bounds-in-range
 
   -- ---- a start that grows
   module _ (K : ℕ) (is : o .way ≡ Growing K) where

@@ -81,9 +81,11 @@ sound-premise {L} {F} {asked} {u} m l h =
 
 -- ---- finite numbers are no NaN
 module _ (p : Point) (fp : pointFinite p ≡ true) where
+  pub x-finite : finite (p .x) ≡ true
+  x-finite = and-first (finite (p .x)) (finite (p .f)) (and-first (finite (p .x) && finite (p .f)) _ fp)
+
   x-real : isNan (p .x) ≡ false
-  x-real =
-      finite→real (p .x) (and-first (finite (p .x)) (finite (p .f)) (and-first (finite (p .x) && finite (p .f)) _ fp))
+  x-real = finite→real (p .x) x-finite
 
   f-real : isNan (p .f) ≡ false
   f-real =

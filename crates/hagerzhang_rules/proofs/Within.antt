@@ -43,15 +43,15 @@ asking-arrives {s} {k} asked x then fine asks go =
 
 -- ---- within the start or one iteration, where k is reported: `whole` is it by itself, and F says what is allowed and
 -- owed of its ends
-module _ (s : Setup) (k : Report) (whole : Alone) (F : Frame) where
+module _ {R : Type 0} (s : Setup) (k : Report) (whole : Alone R) (F : Frame) where
   -- it has come to the bracket u, and goes on by itself as r
-  pub record Comes (asked : List Point) (u : Bracket) (r : Alone) : Type 0 where
+  pub record Comes (asked : List Point) (u : Bracket) (r : Alone R) : Type 0 where
     pub stands : standing s k asked ≡ some (To u)
     pub sound : Sound (s .level) F asked u
     pub there : Plays whole asked r
 
   -- so does the search with `then`, from whatever bracket it comes to after at most m answers
-  abbrev pub Goes : ℕ → (Bracket → Rest Report) → (Bracket → Alone) → Type 0
+  abbrev pub Goes : ℕ → (Bracket → Rest Report) → (Bracket → Alone R) → Type 0
   Goes m then then' =
       (asked : List Point) (u : Bracket) → length asked ≤ m → Comes asked u (then' u) → Arrives s k asked (then u)
 
@@ -66,12 +66,13 @@ module _ (s : Setup) (k : Report) where
   unfolding had
   one-more-had asked d e = ap (λ (o : Option Came). hadBy o (had s k asked)) e
 
-module _ (s : Setup) (k : Report) (fine : Fine s k) (allowed : Allowed s k) (whole : Alone) (F : Frame) where
+module _ {R : Type 0} (s : Setup) (k : Report) (fine : Fine s k) (allowed : Allowed s k) (whole : Alone R)
+    (F : Frame) where
   abbrev pub Here : List Point → Rest Report → Type 0
   Here = Arrives s k
 
   -- the start or the iteration by itself is there too
-  abbrev pub There : List Point → Alone → Type 0
+  abbrev pub There : List Point → Alone R → Type 0
   There = Plays whole
 
   pub ends : {asked : List Point} {e : Ending Why} → length asked ≤ mostAt s k → EndedBecause s k asked e
@@ -79,7 +80,7 @@ module _ (s : Setup) (k : Report) (fine : Fine s k) (allowed : Allowed s k) (who
   unfolding reported
   ends few why = stays refl (ended fine few why)
 
-  pub asks : (asked : List Point) (x : Float) (then : Point → Rest Report) (then' : Point → Alone)
+  pub asks : (asked : List Point) (x : Float) (then : Point → Rest Report) (then' : Point → Alone R)
       → length asked < mostAt s k → AskedBecause s k asked x → There asked (asking s inl k x then')
       → ((f g : Float) → answerFinite f g ≡ true → There (point x f g ∷ asked) (then' (point x f g))
       → Here (point x f g ∷ asked) (then (point x f g)))
@@ -88,7 +89,7 @@ module _ (s : Setup) (k : Report) (fine : Fine s k) (allowed : Allowed s k) (who
       asking-arrives asked x then fine (record { room = room; allowed = allowed; why = why }) (λ f g e.
       go f g e (rw e at (then-asked at f g)))
 
-  pub narrows : (m : ℕ) (asked : List Point) (came : Came) (then : Bracket → Rest Report) (then' : Bracket → Alone)
+  pub narrows : (m : ℕ) (asked : List Point) (came : Came) (then : Bracket → Rest Report) (then' : Bracket → Alone R)
       → length asked + m ≤ mostAt s k → standing s k asked ≡ some came → had s k asked + m ≡ s .options .budget
       → There asked (U3 s inl k m came then') → SoundCame (s .level) F asked came
       → Goes s k whole F (length asked + m) then then' → Here asked (U3 s (keeping k) k m came then)

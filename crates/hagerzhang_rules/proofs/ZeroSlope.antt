@@ -14,9 +14,9 @@ use Rattle.floats.proofs.Branches.{by-cases, by-cases₂, false-if, neither-fir
 use Rattle.floats.proofs.Itself.{difference-of-itself, quotient-of-none}
 use Rattle.floats.proofs.Order.{finite→real, eq→le, eq→ge, lt→nle}
 use Rattle.hagerzhang_rules.specs.Rules.{iterationBy, secantOf, isNear, when, orElse, sameStep, Giving, S2, S3}
-use Rattle.hagerzhang_rules.specs.Rules.{S4, bestOf, judgeOf, trial, further, afterS1, starting, Report, noneYet}
-use Rattle.hagerzhang_rules.specs.Rules.{reportOf, decided, verdict, roundsBy, hagerZhangBy, hagerZhang}
-use Rattle.runs.specs.Outcomes.{limit, asks, ends, Why, refusal, stepNotFinite, refusalIn}
+use Rattle.hagerzhang_rules.specs.Rules.{S4, L2, afterS4, bestOf, judgeOf, trial, further, starting, Report}
+use Rattle.hagerzhang_rules.specs.Rules.{noneYet, reportOf, decided, verdict, roundsBy, hagerZhangBy, hagerZhang}
+use Rattle.runs.specs.Outcomes.{limit, asks, ends, refusal, stepNotFinite, refusalIn}
 use Rattle.runs.specs.Asking.{ask, end, Rest, Ended, endWith, keeping, Reply, shown, respond, outcomes, after, reported}
 use Rattle.runs.specs.Asking.{awaits}
 use Rattle.hagerzhang_rules.specs.declared.Point.{Point}
@@ -30,11 +30,11 @@ use Rattle.hagerzhang_rules.specs.declared.Further.the-variants.{Nothing
 use Rattle.hagerzhang_rules.specs.declared.Judged.{Judged}
 use Rattle.hagerzhang_rules.specs.declared.Judged.the-variants.{Holds, Fails}
 use Rattle.hagerzhang_rules.specs.Brackets.{Ordered}
-use Rattle.hagerzhang_rules.specs.Iterations.{Alone, Plays, not-yet, then-asked}
 use Rattle.hagerzhang_rules.specs.ZeroSlope.{formerS2, formerS3, formerS4, formerly, Changes, GivesNan, OfUpdate}
 use Rattle.hagerzhang_rules.specs.ZeroSlope.{updateAlone, unlessFive, formerBut, marked, Alike, Parts, ZeroSlope}
 use Rattle.hagerzhang_rules.proofs.Apart.{none-not-some}
-use Rattle.hagerzhang_rules.proofs.Passes.{KeptEnd, Kept, kept-to, updates, after-S1, iterates, starts}
+use Rattle.hagerzhang_rules.proofs.Passes.{KeptEnd, Kept, kept-to, updates, goes-on-further, through-S1, starts}
+use Rattle.hagerzhang_rules.proofs.Passes.{Ends, waiting, refused, reached, OneEnds, ends-so}
 
 -- ---- one update
 
@@ -139,26 +139,9 @@ module _ (w u : Bracket) where
       }
 
 -- ---- whatever an update comes to, by any answers
-data Comes (w : Bracket) : Alone → Type 0 where
-  waiting : {k : Report} {x : Float} {then : Float → Float → Alone} → ((f g : Float) → Comes w (then f g))
-      → Comes w (ask k x then)
-  refused : {why : Why} → Comes w (end (inl why))
-  reached : {u : Bracket} → Kept w (To u) → Comes w (end (inr u))
-
-plays-on : {w : Bracket} {r r' : Alone} {asked : List Point} → Comes w r → Plays r asked r' → Comes w r'
-plays-on from not-yet = from
-plays-on from (then-asked before f g) = answered (plays-on from before) f g
-  where
-    answered : {w : Bracket} {k : Report} {x : Float} {then : Float → Float → Alone} → Comes w (ask k x then)
-        → (f g : Float) → Comes w (then f g)
-    answered (waiting go) f g = go f g
-
-kept-at : {w u : Bracket} → Comes w (end (inr u)) → Kept w (To u)
-kept-at (reached kept) = kept
-
-update-comes : (s : Setup) (w : Bracket) (c : Point) → Comes w (updateAlone s w c)
-update-comes s w c =
-    updates s inl noneYet (λ (r : Unit {0} → Alone). Comes w (r tt)) (λ why. refused) (λ x then go. waiting go) w c
+update-kept : (s : Setup) (w : Bracket) (c : Point) → Ends (λ u. Kept w (To u)) (updateAlone s w c)
+update-kept s w c =
+    updates s inl noneYet (OneEnds (λ u. Kept w (To u))) (λ why. refused) (λ x then go. waiting go) w c
     (λ i v. end (inr v)) (λ u kept. reached kept)
 
 -- ---- the whole search: the same text
@@ -179,6 +162,10 @@ by-now {w} {u} cx of =
       | inr n ↦ unless-nan (S4 w cx u) (formerS4 w cx u) n
     ]
 
+-- behind S1: S4, with an e or none, and L2. What comes then has the new bracket alone
+abbrev behindS1 : Setup → Report → Further → Bracket → Bracket → (Bracket → Rest Report) → Rest Report
+behindS1 s k e w u then = further s (keeping k) k e u (λ v. afterS4 s (keeping k) k w v then)
+
 module _ (s : Setup) where
   -- the two texts, of which `true` is today's
   abbrev rule : Bool → Giving
@@ -186,17 +173,17 @@ module _ (s : Setup) where
 
   rounds-same : (n : ℕ) (w : Bracket) (c : Point) (i : ℕ)
       → roundsBy s S4 n w c i ≡ roundsBy s (formerBut S4) n w c i
-  unfolding roundsBy
+  unfolding roundsBy iterationBy
   rounds-same zero w c i = refl
   rounds-same (suc n) w c i =
       let k = reportOf s w c i in
       let later : Bool → Bracket → Rest Report = λ now v. roundsBy s (rule now) n v c (i + 1) in
       ap (λ (go : Rest Report). verdict s w c i go)
-      (iterates s (keeping k) k (λ (r : Bool → Rest Report). r true ≡ r false) (λ why. refl)
-      (λ x then go. ap (λ (t : Float → Float → Rest Report). ask k x t) (fun-ext (λ f. fun-ext (λ g. go f g)))) rule w
-      later (λ cx u kept.
-      ap (λ (e : Further). afterS1 s (keeping k) k e w u (later true)) (by-now cx (of-kept w u kept))
-      ∙ ap (λ (t : Bracket → Rest Report). afterS1 s (keeping k) k (formerBut S4 w cx u) w u t)
+      (through-S1 s (keeping k) k (λ (r : Bool → Rest Report). r true ≡ r false) (λ why. refl)
+      (λ x then go. ap (λ (t : Float → Float → Rest Report). ask k x t) (fun-ext (λ f. fun-ext (λ g. go f g)))) w
+      (λ now d u. behindS1 s k (rule now w (d .x) u) w u (later now)) (λ d u kept.
+      ap (λ (e : Further). behindS1 s k e w u (later true)) (by-now (d .x) (of-kept w u kept))
+      ∙ ap (λ (t : Bracket → Rest Report). behindS1 s k (formerBut S4 w (d .x) u) w u t)
       (fun-ext (λ v. rounds-same n v c (i + 1)))))
 
   same-text : hagerZhang s ≡ hagerZhangBy s (formerBut S4)
@@ -236,13 +223,16 @@ module _ (s : Setup) where
   module _ (k : Report) (w u : Bracket) (then : Text → Bracket → Rest Report)
       (go : (v : Bracket) → AllGo (λ i. then i v)) (d : Further) where
     abbrev behind : Further → Text → Rest Report
-    behind e i = afterS1 s (keeping k) k e w u (then i)
+    behind e i = behindS1 s k e w u (then i)
 
     goes : (e : Further) → AllGo (behind e)
-    goes e = after-S1 s (keeping k) k AllGo (λ why. all-end) (λ x then more. all-ask more) e w u then go
+    unfolding afterS4
+    goes e =
+        goes-on-further s (keeping k) k AllGo (λ why. all-end) (λ x then more. all-ask more) e u
+        (L2 (s .options .params .gamma) w) (λ i v. then i) (λ v. go)
 
     parts : (x : Float) (r3 : Rest Report) → finite x ≡ false → Goes (behind (At x) former) (behind (At 1ᶠ) mark) r3
-    unfolding afterS1 further trial ofBits
+    unfolding further trial ofBits
     parts x r3 e =
         by-cases (λ (r : Rest Report). Goes r (behind (At 1ᶠ) mark) r3) (finite x)
         (λ is. absurd (false≢true (sym e ∙ is))) (λ is. apart-here)
@@ -254,7 +244,7 @@ module _ (s : Setup) where
         (λ is. goes (At x)) (λ isn't. parts x (behind d now) isn't)
 
   rounds-so : (n : ℕ) (w : Bracket) (c : Point) (i : ℕ) → AllGo (λ t. roundsBy s (ruleOf t) n w c i)
-  unfolding roundsBy verdict
+  unfolding roundsBy verdict iterationBy
   rounds-so zero w c i =
       let best = bestOf (w .a) (w .b) c in
       let k = reportOf s w c i in
@@ -263,9 +253,10 @@ module _ (s : Setup) where
       let best = bestOf (w .a) (w .b) c in
       let k = reportOf s w c i in
       let later : Text → Bracket → Rest Report = λ t v. roundsBy s (ruleOf t) n v c (i + 1) in
-      decided-so k (best .x) (λ t. iterationBy s (keeping k) k (ruleOf t) w (later t)) (judgeOf s best)
-      (iterates s (keeping k) k AllGo (λ why. all-end) (λ x then more. all-ask more) ruleOf w later (λ cx u kept.
-      by-e k w u later (λ v. rounds-so n v c (i + 1)) (S4 w cx u) (formerS4 w cx u)))
+      decided-so k (best .x) (λ t. iterationBy s (keeping k) k (ruleOf t) w (λ u. later t)) (judgeOf s best)
+      (through-S1 s (keeping k) k AllGo (λ why. all-end) (λ x then more. all-ask more) w
+      (λ t d u. behindS1 s k (ruleOf t w (d .x) u) w u (later t)) (λ d u kept.
+      by-e k w u later (λ v. rounds-so n v c (i + 1)) (S4 w (d .x) u) (formerS4 w (d .x) u)))
 
   search-so : AllGo (λ t. hagerZhangBy s (ruleOf t))
   unfolding hagerZhangBy
@@ -351,7 +342,7 @@ from-first ys apart-here e = absurd (none-not-some (sym e))
 pub zero-slope : ZeroSlope
 zero-slope = record {
   changes = changed;
-  of-update = λ s w c asked u plays. of-kept w u (kept-at (plays-on (update-comes s w c) plays));
+  of-update = λ s w c asked u plays. of-kept w u (ends-so (update-kept s w c) plays);
   same-text = same-text;
   served-as-before = λ s ys.
       subst (λ (r : Rest Report). Alike r (formerly s) ys ⊎ Parts r (formerly s) (marked s) ys) (sym (same-text s))

@@ -14,7 +14,12 @@ premise L a b = a .g <ᶠ 0ᶠ && a .f ≤ᶠ L && b .g ≥ᶠ 0ᶠ
 abbrev pub Ordered : Bracket → Type 0
 Ordered w = w .a .x <ᶠ w .b .x ≡ true
 
+-- from lo to hi, both included: its low step is lo or more, and its high step is hi or less. With `Ordered` both lie
+-- between
+pub record Lies (lo hi : Float) (u : Bracket) : Type 0 where
+  pub low-within : lo ≤ᶠ u .a .x ≡ true
+  pub high-within : u .b .x ≤ᶠ hi ≡ true
+
 -- "it lies within the former bracket": u within w
-pub record Within (w u : Bracket) : Type 0 where
-  pub low-within : w .a .x ≤ᶠ u .a .x ≡ true
-  pub high-within : u .b .x ≤ᶠ w .b .x ≡ true
+abbrev pub Within : Bracket → Bracket → Type 0
+Within w u = Lies (w .a .x) (w .b .x) u

@@ -22,8 +22,8 @@ use Rattle.hagerzhang_rules.specs.ZeroSlope.{formerS4}
 abbrev pub updated : Bracket → Point → Bracket → Type 0
 updated w c u = updateOf (whole 1) w c ≡ some (To u)
 
-abbrev pub halved : Bracket → Bracket → Further
-halved w u = L2 (setup 100 .options .params .gamma) w u
+abbrev pub asked-by-L2 : Bracket → Bracket → Further
+asked-by-L2 w u = L2 (setup 100 .options .params .gamma) w u
 
 -- t = 2^-60, so that 4t < EPS
 abbrev pub t/2 : Float
@@ -57,7 +57,7 @@ abbrev pub flat : Bracket
 flat = bracket (point (whole 0) (whole 1) (minus tiny)) (point (quarters 5) (whole 9) (whole 0))
 
 unfoldable pub former-M8 : Asks
-former-M8 = iterationBy (setup 100) by-number tt formerS4 at-minimum becomes
+former-M8 = iterationBy (setup 100) by-number tt formerS4 at-minimum (λ u. becomes)
 
 pub record EndSums : Type 0 where
   -- a = (1,0,0), b = (2,9,6): S1 asks 1, unchanged; A's step is a's, no e; L2 asks 1.5
@@ -65,14 +65,14 @@ pub record EndSums : Type 0 where
       (secantOf (low-flat .a) (low-flat .b) ≡ whole 1)
       × ((f g : Float) → updated low-flat (point (whole 1) f g) low-flat)
       × (S4 low-flat (whole 1) low-flat ≡ Nothing)
-      × (halved low-flat low-flat ≡ At (quarters 6))
+      × (asked-by-L2 low-flat low-flat ≡ At (quarters 6))
   -- a = (0,1,-2), b = (t,1,-1): S1 asks 2t, unchanged; near to both ends, and both have the former steps, no e; L2 asks
   -- t/2
   pub both-ends :
       (secantOf (steep .a) (steep .b) ≡ 2t)
       × ((f g : Float) → updated steep (point 2t f g) steep)
       × (S4 steep 2t steep ≡ Nothing)
-      × (halved steep steep ≡ At t/2)
+      × (asked-by-L2 steep steep ≡ At t/2)
   -- a = (0,1,-2), b = (4t,9,6): S1 asks t. Answer (0,2): (a, c). S3 is near to a and gives none; S2's secant(b, c),
   -- which is -t/2, stays
   pub S2-given :

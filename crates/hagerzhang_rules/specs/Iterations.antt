@@ -1,5 +1,5 @@
--- Demand 3's words, over the rules of specs/Rules.antt: what was asked in the start or an iteration, when it is
--- finished and what it leaves; where U3 stands; and why a step is asked, or a search is over.
+-- Demand 3's words, with request 14's, over the rules of specs/Rules.antt: what was asked in the start or an iteration,
+-- when it is finished and what it leaves; where U3 stands; and why a step is asked, or a search is over.
 use Prim.Native.Nat.{ℕ, suc, _+_, _*_, _≤_, _<_}
 use mathlib.Core.Path.{_≡_}
 use mathlib.Core.Bool.{Bool, true, false, _&&_}
@@ -9,7 +9,7 @@ use mathlib.Core.Option.{Option, some, none}
 use lib.ListN.{length}
 use lib.Ieee.{Float, binary64, fits}
 use lib.Ieee.Scale.{finite}
-use Rattle.floats.specs.Arithmetic.{_<ᶠ_}
+use Rattle.floats.specs.Arithmetic.{_<ᶠ_, _≤ᶠ_, 0ᶠ}
 use Rattle.runs.specs.Outcomes.{Ending, stop, limit, refusal, Why, answerNotFinite, stepNotFinite, budgetSpent}
 use Rattle.runs.specs.Outcomes.{stepNotBetween, growthsSpent, alreadyOver, verdictWord}
 use Rattle.runs.specs.declared.Verdict.{Verdict}
@@ -27,6 +27,7 @@ use Rattle.hagerzhang_rules.specs.declared.Grown.{Grown}
 use Rattle.hagerzhang_rules.specs.declared.Grown.the-variants.{Enough, TooShort}
 use Rattle.hagerzhang_rules.specs.declared.Judged.the-variants.{Holds, Fails}
 use Rattle.hagerzhang_rules.specs.Brackets.{premise, Ordered, Within}
+use Rattle.hagerzhang_rules.specs.Closing.{Closes, Widths, Exactly}
 use Rattle.hagerzhang_rules.specs.Rules.{point, answerFinite, updateOf, middleOf, narrowedOf, zeroOf, grownOf}
 use Rattle.hagerzhang_rules.specs.Rules.{longerOf, judgeOf, iteration, starting, Summary, Report, noneYet, last}
 
@@ -35,21 +36,30 @@ abbrev pub progress : Report → ℕ
 progress noneYet = 0
 progress (last p) = suc (p .iterations)
 
--- ---- the start or an iteration by itself: it comes to a refusal, or to a bracket
+-- ---- the start or an iteration by itself: it comes to a refusal, or to what it was for
 
-abbrev pub Alone : Type 0
-Alone = Run Report (Why ⊎ Bracket)
+abbrev pub Alone : Type 0 → Type 0
+Alone R = Run Report (Why ⊎ R)
 
-abbrev pub alone : Setup → Report → Bracket → Alone
-alone s k w = iteration s inl k w (λ v. end (inr v))
+-- an iteration: "A and Z the bracket just before L2" (02, request 14), and the new bracket
+pub record Iterated : Type 0 where
+  pub before-L2 : Bracket
+  pub new : Bracket
 
-abbrev pub startAlone : Setup → Alone
+abbrev pub leaves : Bracket → Bracket → Alone Iterated
+leaves u v = end (inr (record { before-L2 = u; new = v }))
+
+abbrev pub alone : Setup → Report → Bracket → Alone Iterated
+alone s k w = iteration s inl k w leaves
+
+-- the start: the first bracket
+abbrev pub startAlone : Setup → Alone Bracket
 startAlone s = starting s inl noneYet (s .options .way) (λ c w. end (inr w))
 
 -- the points are asked of a run one after the other, newest first, and with their answers it comes to this
-pub data Plays (r : Alone) : List Point → Alone → Type 0 where
+pub data Plays {R : Type 0} (r : Alone R) : List Point → Alone R → Type 0 where
   not-yet : Plays r [] r
-  then-asked : {asked : List Point} {k : Report} {x : Float} {then : Float → Float → Alone}
+  then-asked : {asked : List Point} {k : Report} {x : Float} {then : Float → Float → Alone R}
       → Plays r asked (ask k x then) → (f g : Float) → Plays r (point x f g ∷ asked) (then f g)
 
 -- p is one of these points
@@ -103,8 +113,10 @@ pub record Opens (s : Setup) (asked : List Point) (q : Summary) : Type 0 where
 
 -- what a finished iteration leaves
 pub record Whole (s : Setup) (p : Summary) (asked : List Point) (q : Summary) : Type 0 where
-  -- its answers, and no others, lead the rules' iteration on the former bracket to the new one
-  pub whole : Plays (alone s (last p) (p .bracket)) asked (end (inr (q .bracket)))
+  -- 02, request 14: (A, Z), "the bracket just before L2"
+  pub before-L2 : Bracket
+  -- its answers, and no others, lead the rules' iteration on the former bracket to it, and then to the new bracket
+  pub whole : Plays (alone s (last p) (p .bracket)) asked (leaves before-L2 (q .bracket))
   -- "the bracket meets the same three": where the former one does
   pub stays : premise (s .level) (p .bracket .a) (p .bracket .b) ≡ true
       → premise (s .level) (q .bracket .a) (q .bracket .b) ≡ true
@@ -116,6 +128,16 @@ pub record Whole (s : Setup) (p : Summary) (asked : List Point) (q : Summary) : 
   pub high-from : Came-from (p .bracket) asked (q .bracket .b)
   -- its answers are few
   pub few : length asked ≤ mostInIteration (s .options)
+  -- (A, Z) lies within the former bracket too, its ends are in order, and no step is below 0
+  pub before-narrows : Within (p .bracket) before-L2
+  pub before-ordered : Ordered before-L2
+  pub before-from-zero : 0ᶠ ≤ᶠ before-L2 .a .x ≡ true
+  -- 02, request 14: how fast the bracket closes, whatever the slopes are
+  pub closes : Closes (s .options .params .gamma) (p .bracket) before-L2 (q .bracket)
+  pub widths : Widths (s .options .params .gamma) (p .bracket) before-L2 (q .bracket)
+  -- and exactly, where A.x and Z.x are f64s, as whatever a program holds is
+  pub exactly : fits binary64 (before-L2 .a .x) ≡ true → fits binary64 (before-L2 .b .x) ≡ true
+      → Exactly (s .options .params .gamma) (p .bracket) before-L2 (q .bracket)
 
 -- what one answer brings: the report as it was; the first, with the start; or an iteration finished, and counted
 pub data Brings (s : Setup) (asked : List Point) : Report → Report → Type 0 where
@@ -177,7 +199,7 @@ pub record InU3 (s : Setup) (k : Report) (asked : List Point) (h : Point) (k' d 
 -- step, or 5 times the last; and in U3 it is strictly between the ends
 
 pub data AskedBecause (s : Setup) : Report → List Point → Float → Type 0 where
-  of-bounds : {e : Bounds} {asked : List Point} {x : Float} {then : Float → Float → Alone}
+  of-bounds : {e : Bounds} {asked : List Point} {x : Float} {then : Float → Float → Alone Bracket}
       → s .options .way ≡ Bounded e
       → Plays (startAlone s) asked (ask noneYet x then)
       → finite x ≡ true
@@ -187,7 +209,7 @@ pub data AskedBecause (s : Setup) : Report → List Point → Float → Type 0 w
   as-longer : {K : ℕ} {t : Point} {asked : List Point} → s .options .way ≡ Growing K
       → standing s noneYet (t ∷ asked) ≡ none → length asked < K → finite (longerOf t) ≡ true
       → AskedBecause s noneYet (t ∷ asked) (longerOf t)
-  as-trial : {p : Summary} {asked : List Point} {x : Float} {u : Bracket} {then : Float → Float → Alone}
+  as-trial : {p : Summary} {asked : List Point} {x : Float} {u : Bracket} {then : Float → Float → Alone Iterated}
       → standing s (last p) asked ≡ some (To u)
       → Plays (alone s (last p) (p .bracket)) asked (ask (last p) x then)
       → finite x ≡ true

@@ -3,6 +3,9 @@ pub mod Rules
 pub mod MarkedSums
 pub mod StartSums
 pub mod Brackets
+pub mod Closing
 pub mod Iterations
 pub mod ZeroSlope
 pub mod EndSums
+pub mod HowFast
+pub mod HowFastSums

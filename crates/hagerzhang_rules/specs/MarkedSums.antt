@@ -93,7 +93,7 @@ abbrev pub at-minimum : Bracket
 at-minimum = bracket a low
 
 unfoldable pub iterated : Asks
-iterated = iteration (setup 100) by-number tt at-minimum becomes
+iterated = iteration (setup 100) by-number tt at-minimum (λ u. becomes)
 
 -- M10 to M12: whether cost f and slope s meet the condition, "f0 = 1, s0 = -2, t = 1"
 abbrev pub at-one : Condition → Float → Float → Bool

@@ -204,23 +204,21 @@ module _ {K R : Type 0} (s : Setup) (refuse : Why → R) (kept : K) where
   further Nothing u then = then u
   further (At x) u then = trial x λ c. update u c then
 
-  -- L2 after S1 to S4 came to v. "L3: keep the result": `then` has it
+  -- L2 after S1 to S4 came to v
   unfoldable pub afterS4 : Bracket → Bracket → (Bracket → Run K R) → Run K R
   afterS4 w v then = further (L2 (s .options .params .gamma) w v) v then
 
-  -- S4, if an e was given, after S1 came to u
-  unfoldable pub afterS1 : Further → Bracket → Bracket → (Bracket → Run K R) → Run K R
-  afterS1 e w u then = further e u λ v. afterS4 w v then
-
-  -- "S1: c.x = secant(a, b), ask, update to (A, Z)". `given` is the rule that gives e: S4 by request 4, or the former
-  -- one in specs/ZeroSlope.antt
-  unfoldable pub iterationBy : Giving → Bracket → (Bracket → Run K R) → Run K R
+  -- "S1: c.x = secant(a, b), ask, update to (A, Z)". S4, if an e was given: by request 4's rule, or by the former one
+  -- in specs/ZeroSlope.antt. L2. "L3: keep the result". `then` has first the bracket just before L2, of which 02's
+  -- request 14 speaks, and then the result
+  unfoldable pub iterationBy : Giving → Bracket → (Bracket → Bracket → Run K R) → Run K R
   iterationBy given w then =
       trial (secantOf (w .a) (w .b)) λ c.
       update w c λ u.
-      afterS1 (given w (c .x) u) w u then
+      further (given w (c .x) u) u λ v.
+      afterS4 w v (then v)
 
-  abbrev pub iteration : Bracket → (Bracket → Run K R) → Run K R
+  abbrev pub iteration : Bracket → (Bracket → Bracket → Run K R) → Run K R
   iteration = iterationBy S4
 
   -- ---- the start, which comes to c and a bracket: `then` has both
@@ -297,7 +295,7 @@ module _ (s : Setup) where
       verdict w start i (endWith (reportOf w start i) (limit (best .x)))
   roundsBy given (suc n) w start i =
       let kept = reportOf w start i in
-      verdict w start i (iterationBy s (keeping kept) kept given w λ v. roundsBy given n v start (i + 1))
+      verdict w start i (iterationBy s (keeping kept) kept given w λ u v. roundsBy given n v start (i + 1))
 
   abbrev pub rounds : ℕ → Bracket → Point → ℕ → Rest Report
   rounds = roundsBy S4

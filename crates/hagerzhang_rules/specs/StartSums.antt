@@ -4,7 +4,7 @@
 -- (proofs/StartSums.antt).
 use mathlib.Core.Path.{_≡_}
 use mathlib.Core.Logic.{_⊎_, inl, inr}
-use mathlib.Core.List.{List, [], _∷_}
+use mathlib.Core.List.{[], _∷_}
 use Prim.Native.Nat.{ℕ}
 use lib.Ieee.{Float, binary64, ofBits}
 use Rattle.floats.specs.Numerals.{whole, quarters, minus}

@@ -68,7 +68,7 @@ pub record OfUpdate (w u : Bracket) : Type 0 where
   -- and S4 gives what the former one gave, or that was a NaN
   pub S4-was-nan : (cx : Float) → (S4 w cx u ≡ formerS4 w cx u) ⊎ GivesNan (formerS4 w cx u)
 
-abbrev pub updateAlone : Setup → Bracket → Point → Alone
+abbrev pub updateAlone : Setup → Bracket → Point → Alone Bracket
 updateAlone s w c = update s inl noneYet w c (λ v. end (inr v))
 
 -- ---- of a whole search
