@@ -47,12 +47,14 @@ class Search:
     """`first` is the start's outcome, and `held` the bracket's two points and the best, or None before the start is
     in. `growths` is K for the growing start (02, request 3), and None for 01's start of three answers. `retries` is R,
     which must be 0 until request 7. `silent` has an entry for each iteration in which S2 or S3 gave no e for equal
-    steps: which of them, "e" where the other one gave it, and "L2" where that followed."""
+    steps: which of them, "e" where the other one gave it, and "L2" where that followed. `closing` has an entry for each
+    finished iteration: the former bracket, (A, Z) just before L2, m, which of request 14's three it is, and the new
+    bracket."""
 
     def __init__(self, params, f0, s0, b, n, growths=None, retries=0):
         self.delta, self.sigma, self.epsilon, self.theta, self.gamma, _, self.low, self.high, self.start = params
         self.f0, self.s0, self.b, self.n, self.growths = f0, s0, b, n, growths
-        self.held, self.evaluations, self.iterations, self.silent = None, 0, 0, []
+        self.held, self.evaluations, self.iterations, self.silent, self.closing = None, 0, 0, [], []
         refused = refusal(params, f0, s0, b, n, growths, retries)
         self.ended, self.steps = ("REFUSED", refused) if refused else None, self.run()
         self.first = self.ended or ("ASK", next(self.steps))
@@ -161,11 +163,17 @@ class Search:
         if e is not None:
             d = yield from self.trial(e)
             lo, hi = yield from self.update(lo, hi, d)
+        # 02, request 14: "with A and Z the bracket just before L2: either Z.x - A.x <= gamma*(b.x - a.x) and (A, Z) is
+        # kept; or the new bracket lies within A.x to m or within m to Z.x, m being (A.x + Z.x)/2 as computed; or m is
+        # not strictly inside and (A, Z) is kept."
+        before, m, case = (lo, hi), div(add(lo[0], hi[0]), TWO), 1
         if lt(mul(self.gamma, sub(b[0], a[0])), sub(hi[0], lo[0])):
             if silent:
                 self.silent[-1] += " L2"
-            d = yield from self.trial(div(add(lo[0], hi[0]), TWO))
+            case = 2 if lt(lo[0], m) and lt(m, hi[0]) else 3
+            d = yield from self.trial(m)
             lo, hi = yield from self.update(lo, hi, d)
+        self.closing.append(((a, b), before, m, case, (lo, hi)))
         return lo, hi
 
     def settle(self, a, b, c):
