@@ -14,7 +14,7 @@ use lib.Ieee.{Float, binary64, fits, isNan}
 use lib.Ieee.Scale.{finite}
 use Rattle.floats.specs.Units.{units}
 use Rattle.floats.specs.Arithmetic.{_⊖_, _⊗_, _<ᶠ_, _≤ᶠ_, _>ᶠ_, _≥ᶠ_, 0ᶠ}
-use Rattle.floats.proofs.Branches.{by-cases, and-first, and-second}
+use Rattle.floats.proofs.Branches.{by-cases, both, and-first, and-second}
 use Rattle.floats.proofs.Differences.{sub-mono, sub-real, sub-of-real, times-real}
 use Rattle.floats.proofs.Order.{finite→real, le→real-l, le→real-r, lt→le, lt→nle, nlt→le, le-refl, le-trans}
 use Rattle.floats.proofs.Shrinks.{between-finite}
@@ -26,8 +26,9 @@ use Rattle.hagerzhang_rules.specs.declared.Setup.{Setup}
 use Rattle.hagerzhang_rules.specs.declared.Came.{Came}
 use Rattle.hagerzhang_rules.specs.declared.Came.the-variants.{To, On}
 use Rattle.hagerzhang_rules.specs.declared.Further.{Further}
-use Rattle.hagerzhang_rules.specs.Rules.{point, outside, updateOf, narrowedOf, S4, L2, update, further, afterS4}
-use Rattle.hagerzhang_rules.specs.Rules.{iterationBy, Summary, Report}
+use Rattle.hagerzhang_rules.specs.declared.Further.the-variants.{Nothing, At}
+use Rattle.hagerzhang_rules.specs.Rules.{point, outside, updateOf, narrowedOf, secantOf, S4, L2, trial, update}
+use Rattle.hagerzhang_rules.specs.Rules.{further, afterS4, iterationBy, Summary, Report}
 use Rattle.hagerzhang_rules.specs.Brackets.{Ordered, Lies, Within}
 use Rattle.hagerzhang_rules.specs.Closing.{m, width, span, tooWide, mInside, Halved, Closes, Widths, Exactly}
 use Rattle.hagerzhang_rules.specs.Closing.{EitherOr, is-narrow, is-halved, is-stuck}
@@ -162,6 +163,72 @@ module _ (u : Bracket) (fu : stepsFinite u ≡ true) where
 
   high-finite : finite (u .b .x) ≡ true
   high-finite = and-second (finite (u .a .x)) (finite (u .b .x)) fu
+
+-- ---- (A, Z) has finite steps where the former bracket has: a new one is asked, or lies between two that are finite
+data Finite : Came → Type 0 where
+  to-finite : {u : Bracket} → stepsFinite u ≡ true → Finite (To u)
+  on-finite : {h : Point} {k : Float} → finite (h .x) ≡ true → finite k ≡ true → Finite (On h k)
+
+updated-finite : (L : Float) (w : Bracket) (c : Point) → stepsFinite w ≡ true → finite (c .x) ≡ true
+    → IfAny Finite (updateOf L w c)
+unfolding updateOf
+updated-finite L w c fw fc =
+    let Q : Option Came → Type 0 = IfAny Finite in
+    let low = low-finite w fw in
+    by-cases Q (outside w c) (λ e. if-some (to-finite fw))
+    (λ e. by-cases Q (c .g ≥ᶠ 0ᶠ) (λ e. if-some (to-finite (both (finite (w .a .x)) (finite (c .x)) low fc)))
+    (λ e. by-cases Q (c .g <ᶠ 0ᶠ && c .f ≤ᶠ L)
+    (λ e. if-some (to-finite (both (finite (c .x)) (finite (w .b .x)) fc (high-finite w fw))))
+    (λ e. by-cases Q (c .g <ᶠ 0ᶠ && c .f >ᶠ L) (λ e. if-some (on-finite low fc)) (λ e. if-none))))
+
+narrowed-finite : (L : Float) → StaysBy L Finite
+unfolding narrowedOf
+narrowed-finite L h k d strictly (on-finite fh fk) =
+    let fd : finite (d .x) ≡ true =
+    between-finite (h .x) (d .x) k fh fk (lt→le (h .x) (d .x) (and-first (h .x <ᶠ d .x) (d .x <ᶠ k) strictly))
+    (lt→le (d .x) k (and-second (h .x <ᶠ d .x) (d .x <ᶠ k) strictly)) in
+    by-cases Finite (d .g ≥ᶠ 0ᶠ) (λ e. to-finite (both (finite (h .x)) (finite (d .x)) fh fd))
+    (λ e. by-cases Finite (d .f ≤ᶠ L) (λ e. on-finite fd fk) (λ e. on-finite fh fd))
+
+finite-to : {u : Bracket} → Finite (To u) → stepsFinite u ≡ true
+finite-to (to-finite f) = f
+
+module _ (s : Setup) (k : Report) (w : Bracket) (fw : stepsFinite w ≡ true) where
+  abbrev F : Iterated → Type 0
+  F r = stepsFinite (r .before-L2) ≡ true
+
+  abbrev Then : Type 0
+  Then = Bracket → Alone Iterated
+
+  -- a trial of u at x, and its update
+  tried-finite : (x : Float) (u : Bracket) (then : Point → Then) → stepsFinite u ≡ true
+      → ((c : Point) (v : Bracket) → stepsFinite v ≡ true → Ends F (then c v))
+      → Ends F (trial s inl k x (λ c. update s inl k u c (then c)))
+  tried-finite x u then fu go =
+      passes.tries s inl k (OneEnds F) (λ why. refused) (λ x then go. waiting go) x
+      (λ i c. update s inl k u c (then c)) (λ fx f g.
+      let c = point x f g in
+      passes.updates-by s inl k (OneEnds F) (λ why. refused) (λ x then go. waiting go) Finite
+      (narrowed-finite (s .level)) (updateOf (s .level) u c) (updated-finite (s .level) u c fu fx) (λ i. then c)
+      (λ v f. go c v (finite-to f)))
+
+  further-finite : (e : Further) (u : Bracket) (then : Then) → stepsFinite u ≡ true
+      → ((v : Bracket) → stepsFinite v ≡ true → Ends F (then v)) → Ends F (further s inl k e u then)
+  unfolding further
+  further-finite Nothing u then fu go = go u fu
+  further-finite (At x) u then fu go = tried-finite x u (λ c. then) fu (λ c. go)
+
+  -- S1 and S4; L2 leaves (A, Z) what it was
+  before-ends : Ends F (alone s k w)
+  unfolding iterationBy afterS4
+  before-ends =
+      tried-finite (secantOf (w .a) (w .b)) w
+      (λ c u. further s inl k (S4 w (c .x) u) u (λ v. afterS4 s inl k w v (leaves v))) fw (λ c u fu.
+      further-finite (S4 w (c .x) u) u (λ v. afterS4 s inl k w v (leaves v)) fu (λ v fv.
+      further-finite (L2 (s .options .params .gamma) w v) v (leaves v) fv (λ z fz. reached fv)))
+
+  before-finite : {asked : List Point} {u v : Bracket} → Plays (alone s k w) asked (leaves u v) → stepsFinite u ≡ true
+  before-finite plays = ends-so before-ends plays
 
 -- ---- at finite steps the first test, where it fails, does so between two numbers that are no NaN
 at-most : (gamma : Float) (w u : Bracket) → gammaFit gamma ≡ true → stepsFinite w ≡ true → stepsFinite u ≡ true
@@ -327,7 +394,7 @@ guaranteed one = record {
 
 pub how-fast : HowFast
 how-fast = record {
-  closes = λ s k w asked u v led fit fw fu. closes fit fw fu (fate s k w led);
+  closes = λ s k w asked u v led fit fw. closes fit fw (before-finite s k w fw led) (fate s k w led);
   one-before-L2 = λ s k w asked u v u' v' led led'. one-before led led';
   units-exact = units-exact;
 }

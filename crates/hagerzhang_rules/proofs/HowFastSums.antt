@@ -172,7 +172,7 @@ none-given k w d at fb is none asked fd =
     L2s ½ k w w d asked fd
     (asks-none ½ k w (S4 w (w .b .x) w) w (behind ½ k w) none (S1s ½ k w (w .b) w at fb is))
 
--- 01 accepts-by the setup
+-- 01 accepts the setup
 accepted : (accepts-by ½ ≡ value (setup ½)) × (accepts-by ¾ ≡ value (setup ¾))
 unfolding accepts-by add sub mul div neg le lt eq ofBits ofInt
 accepted = (refl, refl)

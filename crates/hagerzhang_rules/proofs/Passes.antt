@@ -1,8 +1,8 @@
 -- One pass through the flow of the rules, for runs that differ in what comes behind, each with an index i: what holds
 -- of them where all are refused, and passes through a question, passes through U3, an update, a further trial, S1 and
--- either start. What is known of a bracket that an update reaches is handed on: each end is the former
--- end, or lies inside by U0's test (`Kept`), or whatever else its answers keep. And one of these: what a run comes to,
--- by any answers (`Ends`). Assumes nothing.
+-- either start. What is known of a bracket that an update reaches is handed on: each end is the former end, or lies
+-- inside by U0's test (`Kept`), or whatever else U0 to U3 keep. And of one run alone: what it comes to, by any answers
+-- (`Ends`). Assumes nothing.
 use mathlib.Core.Path.{_≡_, refl, sym, _∙_, subst}
 use mathlib.Core.Bool.{Bool, true, false, cond, _&&_, false≢true}
 use mathlib.Core.List.{List}

@@ -30,9 +30,9 @@ abbrev pub Led : Setup → Report → Bracket → List Point → Bracket → Bra
 Led s k w asked u v = Plays (alone s k w) asked (leaves u v)
 
 pub record HowFast : Type 0 where
-  -- no slope is asked for, nor the order of the ends. w's steps and u's are finite in every search that `start` gave
+  -- no slope is asked for, nor the order of the ends. w's steps are finite in every search that `start` gave
   pub closes : (s : Setup) (k : Report) (w : Bracket) (asked : List Point) (u v : Bracket) → Led s k w asked u v
-      → gammaFit (s .options .params .gamma) ≡ true → stepsFinite w ≡ true → stepsFinite u ≡ true
+      → gammaFit (s .options .params .gamma) ≡ true → stepsFinite w ≡ true
       → Closes (s .options .params .gamma) w u v
   -- A and Z are not some brackets, but the ones that the iteration had
   pub one-before-L2 : (s : Setup) (k : Report) (w : Bracket) (asked : List Point) (u v u' v' : Bracket)

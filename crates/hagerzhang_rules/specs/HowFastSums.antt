@@ -42,7 +42,7 @@ options gamma = record {
 abbrev pub setup : Float → Setup
 setup gamma = record { options = options gamma; f0 = whole 1; s0 = minus (whole 2); level = whole 1 }
 
--- 01 accepts-by it
+-- 01 accepts it
 unfoldable pub accepts-by : Float → Result Setup
 accepts-by gamma =
     refuse (startRows (options gamma) (whole 1) (minus (whole 2)))
