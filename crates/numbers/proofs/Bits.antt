@@ -1,15 +1,46 @@
--- 01, "Absolute value clears the sign bit", as a fact of the 64 bits (`abs-clears`); and what a float's comparison with
--- itself says. Assumes nothing.
-use mathlib.Core.Path.{_≡_, refl, sym, subst}
-use Prim.Native.Nat.{ℕ, zero, suc, _+_, _/_, _%_}
-use native.Mathlib.Nat.{mod-lt, mod-mod, mod-mod-of-dvd, dvd-mul-right}
+-- 02, request 5: the exponent bits decide whether a float is finite (`by-exponent-bits`). 01, "Absolute value clears
+-- the sign bit", as a fact of the 64 bits (`abs-clears`). What a float's comparison with itself says. Assumes nothing.
+use mathlib.Core.Path.{_≡_, refl, sym, ap, _∙_, subst}
+use Prim.Native.Nat.{ℕ, zero, suc, _+_, _/_, _%_, _<_}
+use native.Mathlib.Nat.{mod-lt, mod-mod, mod-mod-of-dvd, dvd-mul-right, div-lt-iff-lt-mul}
+use native.Mathlib.Omega.{arith}
 use mathlib.Core.Bool.{Bool, true, false, not, cond, false≢true}
-use lib.Dec.{T, leb, eqb, lit<}
+use lib.Dec.{T, leb, ltb, eqb, lit<}
 use lib.Ieee.{Float, nan, inf, fin, binary64, low, hid, top, odd, ofFields, ofBits, isNan, eq, ne}
 use lib.Ieee.Compare.{differs-from-itself}
-use borrow.Author.Tests.{lt-leb}
-use Rattle.numbers.specs.Numbers.{absOf}
+use lib.Ieee.Scale.{finite}
+use borrow.Author.Tests.{lt-leb, ltb-true, ltb-false, eq-eqb, ne-eqb}
+use Rattle.numbers.specs.Numbers.{absOf, exponentBits, ByExponentBits}
 
+-- ---- the exponent bits
+odd-finite : (d : ℕ) (s : Bool) (q k l : ℕ) → finite (odd d s q k l) ≡ true
+unfolding odd
+odd-finite d s zero k l = refl
+odd-finite d s (suc q) k l = refl
+
+fields-finite : (a b s : Bool) (v : Float) → finite v ≡ true → finite (cond a (cond b (inf s) nan) v) ≡ not a
+fields-finite true true s v h = refl
+fields-finite true false s v h = refl
+fields-finite false b s v h = h
+
+ofFields-finite : (s : Bool) (x t : ℕ) → finite (ofFields binary64 s x t) ≡ not (eqb x 2047)
+unfolding ofFields
+ofFields-finite s zero t = odd-finite 53 s t 0 (low binary64)
+ofFields-finite s (suc x) t =
+    fields-finite (eqb (suc x) 2047) (eqb t 0) s _ (odd-finite 53 s (hid binary64 + t) x (low binary64))
+
+-- eleven bits are 7FF or below it
+eleven : (e : ℕ) → e < 2048 → (b : Bool) → ltb e 2047 ≡ b → not (eqb e 2047) ≡ b
+eleven e h true t = let l = ltb-true e 2047 t in ap not (ne-eqb e 2047 (λ q. omega arith))
+eleven e h false t = let l = ltb-false e 2047 t in ap not (eq-eqb e 2047 (omega arith))
+
+pub by-exponent-bits : ByExponentBits
+unfolding ofBits
+by-exponent-bits w =
+    ofFields-finite (leb (top binary64) w) (exponentBits w) (w % hid binary64)
+    ∙ eleven (exponentBits w) (div-lt-iff-lt-mul {k = hid binary64} (lit< tt) .1 (mod-lt w (lit< tt))) _ refl
+
+-- ---- the sign bit
 odd-abs : (d : ℕ) (s : Bool) (q k l : ℕ) → absOf (odd d s q k l) ≡ odd d false q k l
 unfolding odd
 odd-abs d s zero k l = refl

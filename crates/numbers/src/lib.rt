@@ -6,12 +6,20 @@ ghost use lib.Ieee.{binary64, toBits, ofBits};
 ghost use lib.Ieee.Scale.{finite};
 ghost use Rattle.numbers.specs.Numbers.{bothFinite, absOf};
 
-// Whether x is neither a NaN nor an infinity.
+// Whether the float with the 64 bits w is neither a NaN nor an infinity, by its exponent bits: these are all ones in a
+// NaN and in an infinity, and in no other float.
+pub fn finite_bits(w: u64) -> bool
+    ensures { λ r. ⌜ r ≡ finite (ofBits binary64 w) ⌝ }
+{
+    w % 0x8000_0000_0000_0000 / 0x10_0000_0000_0000 < 0x7ff
+}
+
+// Whether x is neither a NaN nor an infinity. A NaN, which alone differs from itself, has no bits for `f64::to_bits`.
+// Compiled, the comparison is gone (docs/DECISIONS.md, "Numbers and vectors").
 pub fn is_finite(x: f64) -> bool
     ensures { λ r. ⌜ r ≡ finite x ⌝ }
 {
-    let inf = f64::from_bits(0x7ff0_0000_0000_0000);
-    -inf < x && x < inf
+    x == x && finite_bits(f64::to_bits(x))
 }
 
 // Whether neither x nor y is a NaN or an infinity.

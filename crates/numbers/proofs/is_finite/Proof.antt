@@ -1,35 +1,26 @@
--- `numbers::is_finite` meets its contract, by cases on the float: the constant is the infinity. Assumes nothing.
-use mathlib.Core.Path.{_≡_, refl, sym}
-use mathlib.Core.Bool.{true, false, false≢true}
-use lib.Ieee.{Float, nan, inf, fin, lt, neg, ofBits, nanBits}
+-- `numbers::is_finite` meets its contract: what equals itself is read back from its bits, and a NaN is not finite.
+-- Assumes nothing.
+use mathlib.Core.Path.{sym, ap, _∙_, subst}
+use lib.Dec.{T}
+use lib.Ieee.{binary64}
+use lib.Ieee.Bits.{ofBits-toBits}
 use lib.Ieee.Scale.{finite}
+use Rattle.numbers.proofs.Bits.{equals-itself, unlike-itself}
 use Rattle.numbers.proofs.is_finite.Statement.{statement}
 use Rattle.numbers.proofs.is_finite.Tie as tie
 
-above : (x : Float) → lt (inf true) x ≡ true → lt x (inf false) ≡ finite x
-unfolding lt
-above nan e = refl
-above (inf true) e = absurd (false≢true e)
-above (inf false) e = refl
-above (fin s m d) e = refl
-
-not-above : (x : Float) → lt (inf true) x ≡ false → false ≡ finite x
-unfolding lt
-not-above nan e = refl
-not-above (inf s) e = refl
-not-above (fin s m d) e = sym e
-
-float-from-bits-inf : tie.Need-float-from-bits-inf
-unfolding nanBits
-float-from-bits-inf c = tt
+float-to-bits-finite-bits : tie.Need-float-to-bits-finite-bits
+float-to-bits-finite-bits c = equals-itself (c .before .args .x) (c .if1 .taken)
 
 returns : tie.Need-returns
-unfolding ofBits neg
-returns c = above (c .before .args .x) (c .if1 .taken)
+returns c =
+    c .finite-bits .ensures
+    ∙ ap finite (ofBits-toBits binary64 (c .before .before .args .x) (subst T (sym (c .before .before .good .0 .1)) tt))
 
 returns-2 : tie.Need-returns-2
-unfolding ofBits neg
-returns-2 c = rw (c .if1 .left) (not-above (c .before .args .x) (c .if1 .left))
+returns-2 c =
+    let e = unlike-itself (c .before .args .x) (c .if1 .left) in
+    rw (c .if1 .left) (sym (ap finite e))
 
 pub is-finite-spec : {M : Type 1} → statement M
-is-finite-spec = tie.close (tie.spec float-from-bits-inf returns returns-2)
+is-finite-spec = tie.close (tie.spec float-to-bits-finite-bits (λ c κs. tt) returns returns-2)
