@@ -40,7 +40,8 @@ def is_nan(b):
 
 
 def is_finite(b):
-    return (b & ~SIGN) < INF
+    """By the exponent bits (02, request 5)."""
+    return (b >> 52) & 0x7FF < 0x7FF
 
 
 def exact(b):
