@@ -5,8 +5,8 @@ usage: finite.py [CASES]
        finite.py --code
 
 CASES is bin/cases where none is given. It is given dots of vectors with each exponent, of both signs, at the ends and
-at the middle of the mantissas; what must be printed comes from the model. Three slips are made in a copy of the model,
-and each must show: the mantissa's bits looked at, the sign bit not masked, 7FF taken too.
+at the middle of the mantissas; what must be printed comes from the model. The model is asked with three wrong tests
+too, and each must show: the mantissa's bits looked at, the sign bit not masked, 7FF taken too.
 
 Then the test is compiled by itself, and its machine code must have no float operation. --code prints that code: of the
 test on a float, of the test on a pattern, and of the former body, which compared with the infinities.
