@@ -1,12 +1,14 @@
 // A list of answers to numbered searches: number, cost and slope of each, end to end. Which search a number names, and
 // whether the list may be given.
 
+#![tactic(auto)]
+
 ghost use Rattle.std.specs.Prelude.{◌≡◌};
 ghost use Rattle.answers.specs.Answers.{search_number, answers_in, size_of, all_named};
 ghost use Rattle.answers.specs.Answers.{refusal_number, CheckedSaid};
 
 // Why a list is refused, in the order in which the reasons are tried.
-#[derive(Drop)]
+#[derive(Clone, Copy)]
 pub enum Refusal {
     // 1: its length is no multiple of 3
     Lengths,
@@ -26,7 +28,7 @@ impl Refusal {
     }
 }
 
-#[derive(Drop)]
+#[derive(Clone, Copy)]
 pub enum Checked {
     // every answer in it names a search
     Sound,

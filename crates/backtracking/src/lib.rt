@@ -1,6 +1,8 @@
 // Backtracking (argmin's backtracking.rs): the step is shrunk until a condition is met. The search hands out a step,
 // and is given cost and slope there.
 
+#![tactic(auto)]
+
 ghost use Rattle.std.specs.Prelude.{◌≡◌};
 ghost use Rattle.backtracking.specs.Backtracking.{supplied_finite, in_ranges, defaults_of};
 ghost use Rattle.backtracking.specs.Machine.{made_of, fresh_of, tried_of, StartSaid, AnswerSaid};
@@ -10,7 +12,7 @@ use conditions::Condition;
 use refusals::Refusal;
 use runs::{Evaluations, Iterations, Outcome, Verdict};
 
-#[derive(Drop)]
+#[derive(Clone, Copy)]
 pub struct Options {
     pub condition: Condition,
     // the factor by which a step shrinks
@@ -22,7 +24,7 @@ pub struct Options {
 }
 
 // What does not change in a search.
-#[derive(Drop)]
+#[derive(Clone, Copy)]
 pub struct Setup {
     pub options: Options,
     // cost and slope at step 0
@@ -31,7 +33,7 @@ pub struct Setup {
 }
 
 // What the search waits for: the answer at the first step, at a later one, or nothing any more.
-#[derive(Drop)]
+#[derive(Clone, Copy)]
 pub enum Stage {
     First,
     Later(f64),
@@ -39,7 +41,7 @@ pub enum Stage {
 }
 
 // There is no bracket and no best in it.
-#[derive(Drop)]
+#[derive(Clone, Copy)]
 pub struct Backtracking {
     pub setup: Setup,
     pub evaluations: Evaluations,
@@ -47,13 +49,13 @@ pub struct Backtracking {
     pub stage: Stage,
 }
 
-#[derive(Drop)]
+#[derive(Clone, Copy)]
 pub struct Turn {
     pub search: Backtracking,
     pub outcome: Outcome,
 }
 
-#[derive(Drop)]
+#[derive(Clone, Copy)]
 pub enum Started {
     Began(Turn),
     NoSearch(Refusal),

@@ -2,13 +2,15 @@
 // bits. With an argument it gives 50 million answers, without one a thousand. bench/twin.rs is the same in plain Rust,
 // and bench/run compares the two.
 
+#![tactic(auto)]
+
 use curves::{Curve, Known};
 use hagerzhang::{Kept, Search, Stage, Started};
 use hagerzhang_rules::{Bounds, Options, Params, Setup, Way};
 use runs::{Evaluations, Outcome};
 
 // The sum of the steps, and how many answers are left to give.
-#[derive(Drop)]
+#[derive(Clone, Copy)]
 struct Tally {
     sum: f64,
     left: u64,

@@ -2,6 +2,8 @@
 // each begun anew where it ended. Prints the sum of all steps as its bits. With an argument it makes a million scans,
 // without one a thousand. The crate bench_answers gives the same answers one at a time.
 
+#![tactic(auto)]
+
 use curves::{Curve, Known};
 use hagerzhang::Started;
 use hagerzhang_rules::{Bounds, Options, Params, Way};

@@ -1,5 +1,7 @@
 // The fields of a case file: what the body of each says.
 
+#![tactic(auto)]
+
 ghost use Rattle.std.specs.Prelude.{◌≡◌, ◌≤◌, length, drop};
 ghost use Rattle.bodies.specs.Bodies.{float_at, quad_at, params_of, bounds_of, start_with, hager_zhang_of};
 ghost use Rattle.bodies.specs.Bodies.{way_of, limit_of, whole_of, condition_of, backtracking_of, answer_of, floats_of};
@@ -8,14 +10,14 @@ use conditions::Condition;
 use hagerzhang_rules::{Bounds, Params, Way};
 
 // A start: its options, and cost and slope at step 0.
-#[derive(Drop)]
+#[derive(Clone, Copy)]
 pub struct HagerZhangStart {
     pub options: hagerzhang_rules::Options,
     pub f0: f64,
     pub s0: f64,
 }
 
-#[derive(Drop)]
+#[derive(Clone, Copy)]
 pub struct BacktrackingStart {
     pub options: backtracking::Options,
     pub f0: f64,
@@ -23,7 +25,7 @@ pub struct BacktrackingStart {
 }
 
 // An answer.
-#[derive(Drop)]
+#[derive(Clone, Copy)]
 pub struct Reply {
     pub cost: f64,
     pub slope: f64,

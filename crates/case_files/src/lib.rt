@@ -1,5 +1,7 @@
 // The fields of a case file: which tags there are, and which bodies they want.
 
+#![tactic(auto)]
+
 ghost use Rattle.std.specs.Prelude.{◌≡◌};
 ghost use Rattle.case_files.specs.CaseFiles.{is_way, is_condition, dot_field, point_field};
 ghost use Rattle.case_files.specs.CaseFiles.{tagged_field, may_have, read_of};
@@ -7,7 +9,7 @@ ghost use Rattle.case_files.specs.CaseFiles.{tagged_field, may_have, read_of};
 use fields::Heading;
 
 // A field by its kind, with the lengths that its body names.
-#[derive(Drop)]
+#[derive(Clone, Copy)]
 pub enum Field {
     // tag 16: a whole Hager-Zhang start
     StartWhole,

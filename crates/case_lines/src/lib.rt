@@ -2,6 +2,8 @@
 // into a lent buffer as those of the crate text do. docs/FORMATS.md has all lines; h stands there for a float's 64 bits
 // in hex.
 
+#![tactic(auto)]
+
 ghost use Rattle.text.specs.Text.{Writes};
 ghost use Rattle.vectors.specs.Told.{fault_of};
 ghost use Rattle.case_lines.specs.CaseLines.{head_line, malformed_line};

@@ -6,7 +6,7 @@ use streams::Received;
 
 // The part in memory: the buffer begins with byte `base` of the input, and holds it up to `to`. What is before `from`
 // is served. The input has ended, or a read has failed, or more may come.
-#[derive(Drop)]
+#[derive(Clone, Copy)]
 pub(crate) struct Window {
     pub(crate) base: u64,
     pub(crate) from: usize,

@@ -1,6 +1,8 @@
 // Reads cases from standard input, a search or a vector each, and shows what becomes of them. The crates case_files
 // and bodies say how a case is written.
 
+#![tactic(auto)]
+
 mod input;
 mod on_vectors;
 mod searches;
@@ -14,7 +16,7 @@ use searches::{Current, Told};
 
 // What the fields so far have come to: the search of the current case, how many cases there were, the place of the next
 // line, and whether a field was malformed.
-#[derive(Drop)]
+#[derive(Clone, Copy)]
 struct Progress {
     current: Current,
     cases: u64,

@@ -6,7 +6,7 @@ use hagerzhang::Search;
 use refusals::Refusal;
 use runs::{Evaluations, Iterations, Outcome};
 
-#[derive(Drop)]
+#[derive(Clone, Copy)]
 pub(crate) enum Current {
     // before the first case, and after a dot or a point: there is none, and no answer may come
     Free,
@@ -26,7 +26,7 @@ pub(crate) fn searching(current: Current) -> bool {
 }
 
 // What a start or an answer comes to, with the counts that its line shows.
-#[derive(Drop)]
+#[derive(Clone, Copy)]
 pub(crate) struct Told {
     pub(crate) current: Current,
     pub(crate) outcome: Outcome,

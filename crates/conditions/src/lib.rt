@@ -1,13 +1,15 @@
 // The four conditions that a step can be held to, each with its constants (argmin's condition/armijo.rs, goldstein.rs,
 // wolfe.rs, strongwolfe.rs).
 
+#![tactic(auto)]
+
 ghost use Rattle.std.specs.Prelude.{◌≡◌};
 ghost use Rattle.conditions.specs.Conditions.{constants_finite, in_range, needs_slope, answer_finite, holds_of};
 ghost use Rattle.conditions.specs.Told.{CheckedSaid};
 
 use refusals::Refusal;
 
-#[derive(Drop)]
+#[derive(Clone, Copy)]
 pub enum Condition {
     Armijo { c: f64 },
     Goldstein { c: f64 },
@@ -16,7 +18,7 @@ pub enum Condition {
 }
 
 // A condition whose constants are in their ranges, or why not.
-#[derive(Drop)]
+#[derive(Clone, Copy)]
 pub enum Checked {
     Fit(Condition),
     Unfit(Refusal),

@@ -1,5 +1,7 @@
 // 01's eight sample curves: polynomials of degree 4, by a fixed table of coefficients.
 
+#![tactic(auto)]
+
 ghost use Rattle.std.specs.Prelude.{◌≡◌, ◌<◌};
 ghost use Rattle.curves.specs.Curves.{entry_of, curve_at, value_of, slope_of};
 ghost use Rattle.curves.specs.Told.{NumberedSaid};
@@ -15,7 +17,7 @@ const TABLE: [i8; 40] = [
     5, -4, -2, 0, 1, 0, 1, -1, 0, 0,
 ];
 
-#[derive(Drop)]
+#[derive(Clone, Copy)]
 pub struct Curve {
     pub c0: f64,
     pub c1: f64,
@@ -24,7 +26,7 @@ pub struct Curve {
     pub c4: f64,
 }
 
-#[derive(Drop)]
+#[derive(Clone, Copy)]
 pub enum Known {
     Found(Curve),
     Unknown(Refusal),

@@ -1,6 +1,8 @@
 // Prints every default of both searches, from the library: a line each with the search, the name and the value. A float
 // is its 64 bits.
 
+#![tactic(auto)]
+
 use conditions::Condition;
 use hagerzhang_rules::{Options, Params, Way};
 

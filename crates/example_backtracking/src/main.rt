@@ -1,5 +1,8 @@
 // An example: backtracking with each of the four conditions, over a model of its own. The constants of a condition are
 // checked first; two of them are bad, and are refused by number.
+
+#![tactic(auto)]
+
 use backtracking::{Started, Turn};
 use conditions::{Checked, Condition};
 use runs::Outcome;

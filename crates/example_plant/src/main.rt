@@ -1,5 +1,8 @@
 // An example: a search over a plant model of one's own. The search asks a step, the model answers cost and slope there,
 // and every outcome is printed as a line. The second plant has a dead sensor: the search says so, and does not go on.
+
+#![tactic(auto)]
+
 use hagerzhang::{Started, Turn};
 use hagerzhang_rules::{Bounds, Options, Way};
 use runs::Outcome;
@@ -9,7 +12,7 @@ use streams::Sent;
 
 // A chiller and the pump of its condenser water. More flow makes the chiller's work less and the pump's more. Above a
 // flow the sensor is dead.
-#[derive(Drop)]
+#[derive(Clone, Copy)]
 struct Plant {
     chiller: f64,
     pump: f64,

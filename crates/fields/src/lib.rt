@@ -1,11 +1,13 @@
 // Tagged fields in bytes: one-byte tag, two-byte length, body, most significant byte first. What tags there are, how
 // long their bodies may be and in which order they come is for the reader of a job or of a case file to say.
 
+#![tactic(auto)]
+
 ghost use Rattle.std.specs.Prelude.{◌≡◌, ◌≤◌, length};
 ghost use Rattle.fields.specs.Fields.{head_of, body_of, end_of};
 
 // What the head of a field says.
-#[derive(Drop)]
+#[derive(Clone, Copy)]
 pub enum Heading {
     // the tag, and the length of the body, which is whole
     Tagged(u8, usize),

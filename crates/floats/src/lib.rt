@@ -4,3 +4,5 @@
 // Compare and Rounding lead to them. Two more are for every crate's
 // proofs: Branches.antt (the tests that led to a return, followed by one search) and Determined.antt (a contract that
 // tells everything determines).
+
+#![tactic(auto)]

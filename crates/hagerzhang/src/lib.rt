@@ -1,6 +1,8 @@
 // Hager-Zhang as a machine. The search hands out a step and is given cost and slope there. What an answer leads to is
 // in the crate hagerzhang_steps; here it is counted, refused where it is not finite, and put into the search.
 
+#![tactic(auto)]
+
 ghost use Rattle.std.specs.Prelude.{◌≡◌, false};
 ghost use Rattle.std.specs.Float.Ieee.{is_nan};
 ghost use Rattle.runs.specs.Asking.{reported, awaits};

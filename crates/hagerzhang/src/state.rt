@@ -9,26 +9,26 @@ use refusals::Refusal;
 use runs::{Evaluations, Outcome};
 
 // The step at which an answer is awaited, if there is one.
-#[derive(Drop)]
+#[derive(Clone, Copy)]
 pub enum Due {
     Awaited(f64),
     NothingDue,
 }
 
-#[derive(Drop)]
+#[derive(Clone, Copy)]
 pub struct Search {
     pub setup: Setup,
     pub evaluations: Evaluations,
     pub stage: Stage,
 }
 
-#[derive(Drop)]
+#[derive(Clone, Copy)]
 pub struct Turn {
     pub search: Search,
     pub outcome: Outcome,
 }
 
-#[derive(Drop)]
+#[derive(Clone, Copy)]
 pub enum Started {
     Began(Turn),
     NoSearch(Refusal),

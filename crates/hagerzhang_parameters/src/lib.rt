@@ -1,6 +1,8 @@
 // 01's "Parameters" of Hager-Zhang: the defaults, and the tests of a start for refusals 2 and 3; and what 02's request
 // 3 adds to them, with refusal 10. The types and the rules' text are hagerzhang_rules'.
 
+#![tactic(auto)]
+
 ghost use Rattle.std.specs.Prelude.{◌≡◌};
 ghost use Rattle.hagerzhang_rules.specs.Parameters.{
   default_options,

@@ -2,26 +2,28 @@
 // specs/ is 01's text, proofs/ has the theorems about that text alone. hagerzhang_parameters has the tests of a start,
 // and hagerzhang_decisions decides each rule.
 
+#![tactic(auto)]
+
 use runs::Verdict;
 
 // 01: "EPS = 2^-52". S2 and S3 go by it, and it is the default of min.
 pub const EPS: f64 = 2.220446049250313e-16;
 
 // Step, cost and slope.
-#[derive(Drop)]
+#[derive(Clone, Copy)]
 pub struct Point {
     pub x: f64,
     pub f: f64,
     pub g: f64,
 }
 
-#[derive(Drop)]
+#[derive(Clone, Copy)]
 pub struct Bracket {
     pub a: Point,
     pub b: Point,
 }
 
-#[derive(Drop)]
+#[derive(Clone, Copy)]
 pub struct Params {
     pub delta: f64,
     pub sigma: f64,
@@ -34,14 +36,14 @@ pub struct Params {
     pub start: f64,
 }
 
-#[derive(Drop)]
+#[derive(Clone, Copy)]
 pub struct Bounds {
     pub min: f64,
     pub max: f64,
 }
 
 // The way of starting.
-#[derive(Drop)]
+#[derive(Clone, Copy)]
 pub enum Way {
     // 01: three answers, at min, max and the start step
     Bounded(Bounds),
@@ -49,7 +51,7 @@ pub enum Way {
     Growing(u32),
 }
 
-#[derive(Drop)]
+#[derive(Clone, Copy)]
 pub struct Options {
     pub params: Params,
     pub way: Way,
@@ -60,7 +62,7 @@ pub struct Options {
 }
 
 // What does not change in a search.
-#[derive(Drop)]
+#[derive(Clone, Copy)]
 pub struct Setup {
     pub options: Options,
     // cost and slope at step 0
@@ -71,27 +73,27 @@ pub struct Setup {
 }
 
 // What an answer comes to: the updated bracket, or U3 goes on with its ends.
-#[derive(Drop)]
+#[derive(Clone, Copy)]
 pub enum Came {
     To(Bracket),
     On(Point, f64),
 }
 
 // What the answer at a trial of a growing start comes to: a bracket or U3, or the step is too short.
-#[derive(Drop)]
+#[derive(Clone, Copy)]
 pub enum Grown {
     Enough(Came),
     TooShort,
 }
 
 // A further trial of an iteration, if there is one.
-#[derive(Drop)]
+#[derive(Clone, Copy)]
 pub enum Further {
     Nothing,
     At(f64),
 }
 
-#[derive(Drop)]
+#[derive(Clone, Copy)]
 pub enum Judged {
     Holds(Verdict),
     Fails,

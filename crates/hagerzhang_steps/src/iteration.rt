@@ -18,7 +18,7 @@ use hagerzhang_decisions::bracketing;
 use hagerzhang_rules::{Bracket, Came, Further, Point, Setup};
 
 // What follows in the iteration: a move, or its end with a bracket.
-#[derive(Drop)]
+#[derive(Clone, Copy)]
 pub enum Then {
     Go(Move),
     Close(Bracket),

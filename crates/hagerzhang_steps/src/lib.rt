@@ -6,6 +6,8 @@
 // The enums Then, Move, Tested, Probed and Opened are pub only so that the proofs of hagerzhang can name them: no use
 // line below hands them on, and no code of another crate can.
 
+#![tactic(auto)]
+
 ghost use Rattle.std.specs.Prelude.{◌≡◌};
 ghost use Rattle.hagerzhang_steps.specs.Steps.{react_of, starts_of};
 

@@ -21,7 +21,7 @@ use runs::{Iterations, Outcome, Verdict};
 
 // What is due next: a trial's step, a step of U3 between h and k while so many answers may come, or the end by a
 // verdict or the limit.
-#[derive(Drop)]
+#[derive(Clone, Copy)]
 pub enum Move {
     Try(Bracket, Trial),
     Narrow(Trial, Point, f64, u32),
@@ -66,7 +66,7 @@ pub(crate) fn tries(u: Bracket, rule: Rule, x: f64) -> Move
 }
 
 // A move that was tested: it is asked, or the search is over.
-#[derive(Drop)]
+#[derive(Clone, Copy)]
 pub enum Tested {
     Asks(Bracket, Trial),
     Narrows(Trial, Narrowing),
@@ -106,7 +106,7 @@ fn narrow(theta: f64, t: Trial, h: Point, k: f64, left: u32) -> Tested
 }
 
 // What the test of U3's next step comes to.
-#[derive(Drop)]
+#[derive(Clone, Copy)]
 pub enum Probed {
     Passes(Narrowing),
     Barred(Refusal),

@@ -13,7 +13,7 @@ use refusals::Refusal;
 
 // What an answer in the start leads to: the next step, the bracket and c with which the start is finished, or a
 // refusal.
-#[derive(Drop)]
+#[derive(Clone, Copy)]
 pub enum Opened {
     More(Opening, f64),
     Done(Bracket, Point),

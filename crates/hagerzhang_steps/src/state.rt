@@ -10,7 +10,7 @@ use hagerzhang_rules::{Bounds, Bracket, Point};
 use runs::{Iterations, Outcome};
 
 // What a finished iteration left, or the start: bracket, start point c, best, and how many iterations are finished.
-#[derive(Drop)]
+#[derive(Clone, Copy)]
 pub struct Finished {
     pub bracket: Bracket,
     pub c: Point,
@@ -19,7 +19,7 @@ pub struct Finished {
 }
 
 // What a search that is over keeps. During the start there is no bracket and no best.
-#[derive(Drop)]
+#[derive(Clone, Copy)]
 pub enum Kept {
     NoneYet,
     Last(Finished),
@@ -38,21 +38,21 @@ impl Kept {
 }
 
 // The rule of 01 by which a trial is asked.
-#[derive(Drop)]
+#[derive(Clone, Copy)]
 pub enum Rule {
     S1,
     S4,
     L2,
 }
 
-#[derive(Drop)]
+#[derive(Clone, Copy)]
 pub struct Trial {
     pub rule: Rule,
     pub x: f64,
 }
 
 // U3 asked d between h and k, and after this answer `left` more may come.
-#[derive(Drop)]
+#[derive(Clone, Copy)]
 pub struct Narrowing {
     pub h: Point,
     pub k: f64,
@@ -62,7 +62,7 @@ pub struct Narrowing {
 
 // A start that grows asks x. The trial before it, or the point at 0, is `earlier`; after this answer the step may grow
 // `left` times more.
-#[derive(Drop)]
+#[derive(Clone, Copy)]
 pub struct Growth {
     pub earlier: Point,
     pub x: f64,
@@ -70,7 +70,7 @@ pub struct Growth {
 }
 
 // What a start asked.
-#[derive(Drop)]
+#[derive(Clone, Copy)]
 pub enum Opening {
     // 01's: at min, where max comes next; at max, behind the answer at min; at the start step
     Low(Bounds),
@@ -83,27 +83,27 @@ pub enum Opening {
 }
 
 // What an iteration asked: the trial's own step, to update a bracket with, or a step of U3.
-#[derive(Drop)]
+#[derive(Clone, Copy)]
 pub enum Asked {
     Update(Bracket),
     Between(Narrowing),
 }
 
 // What the search waits for: an answer of the start, behind which nothing is finished, or one in an iteration.
-#[derive(Drop)]
+#[derive(Clone, Copy)]
 pub enum Waiting {
     Starting(Opening),
     Running(Trial, Finished, Asked),
 }
 
-#[derive(Drop)]
+#[derive(Clone, Copy)]
 pub enum Stage {
     Open(Waiting),
     Over(Kept),
 }
 
 // What an answer leads to, before it is put into the search.
-#[derive(Drop)]
+#[derive(Clone, Copy)]
 pub struct Next {
     pub stage: Stage,
     pub outcome: Outcome,

@@ -1,6 +1,8 @@
 // 01's jobs: tagged fields, read as the parameters of a search over one of the sample curves; and the search of a job,
 // by 01's refusals 9, 2, 3 and 4 over the whole job, in that order.
 
+#![tactic(auto)]
+
 ghost use Rattle.std.specs.Prelude.{◌≡◌, true, ◌≤◌, length, drop};
 ghost use Rattle.wire.specs.Wire.{pair_of, float_of};
 ghost use Rattle.fields.specs.Fields.{body_of};
@@ -17,14 +19,14 @@ use refusals::Refusal;
 
 // ---- a job, read from bytes
 
-#[derive(Drop)]
+#[derive(Clone, Copy)]
 pub struct Job {
     // the curve's number, as the job has it
     pub curve: u32,
     pub options: Options,
 }
 
-#[derive(Drop)]
+#[derive(Clone, Copy)]
 pub enum Reading {
     Whole(Job),
     // 9
@@ -32,7 +34,7 @@ pub enum Reading {
 }
 
 // Where a field may stand: the place, its tag, and the length of its body.
-#[derive(Drop)]
+#[derive(Clone, Copy)]
 struct Place(usize, u8, usize);
 
 // Whether it stands there.
@@ -164,7 +166,7 @@ pub fn read(job: &[u8]) -> Reading
 // ---- the search of a job
 
 // What a job begins: a search over a curve, which has asked its first step; or none.
-#[derive(Drop)]
+#[derive(Clone, Copy)]
 pub enum Opened {
     Begun(Curve, Turn),
     // 2, 3 or 4

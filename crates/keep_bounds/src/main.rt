@@ -1,6 +1,8 @@
 // Passes standard input on to standard output: a job that has no field 2 with one that has the old bounds, a job that
 // has one and whatever is no job byte for byte.
 
+#![tactic(auto)]
+
 ghost use Rattle.std.specs.Prelude.{◌≤◌, length};
 
 use streams::{Filled, Received, Sent};

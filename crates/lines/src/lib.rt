@@ -2,6 +2,8 @@
 // function writes into a lent buffer as those of the crate text do: at a place, as much as there is room for, and it
 // answers the place behind. docs/FORMATS.md has all lines; h stands there for a float's 64 bits in hex.
 
+#![tactic(auto)]
+
 ghost use Rattle.std.specs.Prelude.{◌++◌};
 ghost use Rattle.runs.specs.Outcomes.{verdict_word, told};
 ghost use Rattle.text.specs.Text.{Writes, bytes};

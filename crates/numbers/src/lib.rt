@@ -1,6 +1,8 @@
 // 01's number routines: finite test and absolute value; and a float and its 64 bits. Any input gets an answer, and no
 // caller owes anything.
 
+#![tactic(auto)]
+
 ghost use Rattle.std.specs.Prelude.{◌≡◌};
 ghost use Rattle.std.specs.Float.{binary64};
 ghost use Rattle.std.specs.Float.Ieee.{to_bits, of_bits};

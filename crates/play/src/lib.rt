@@ -1,6 +1,8 @@
 // The play of a Hager-Zhang search over a curve: the curve answers each step that is asked, and every outcome is
 // written as a line.
 
+#![tactic(auto)]
+
 ghost use Rattle.std.specs.Prelude.{◌≡◌};
 ghost use Rattle.text.specs.Text.{Writes};
 ghost use Rattle.play.specs.Telling.{said_line};
@@ -11,14 +13,14 @@ use hagerzhang::Turn;
 use runs::Outcome;
 
 // A play goes on with a turn whose outcome is still to be told, or everything is told.
-#[derive(Drop)]
+#[derive(Clone, Copy)]
 pub enum Played {
     Pending(Turn),
     Done,
 }
 
 // What is left of a play, and the place behind what was written.
-#[derive(Drop)]
+#[derive(Clone, Copy)]
 pub struct Written {
     pub played: Played,
     pub at: usize,

@@ -1,10 +1,12 @@
 // The refusals that a search can give, and their numbers.
 
+#![tactic(auto)]
+
 ghost use Rattle.std.specs.Prelude.{◌≡◌};
 ghost use Rattle.refusals.specs.Refusals.{number_of};
 
 // 01's refusals that a search can give, and from 10 on 02's, in the order of their numbers.
-#[derive(Drop)]
+#[derive(Clone, Copy)]
 pub enum Refusal {
     // 2: a number that was supplied is a NaN or an infinity
     SuppliedNotFinite,

@@ -1,11 +1,13 @@
 // What a search says after each answer, and what it counts: shared by the searches.
 
+#![tactic(auto)]
+
 ghost use Rattle.std.specs.Prelude.{◌≡◌};
 ghost use Rattle.runs.specs.Counters.{one_more, evaluations, iterations};
 
 use refusals::Refusal;
 
-#[derive(Drop)]
+#[derive(Clone, Copy)]
 pub enum Verdict {
     // backtracking: the condition is met
     Met,
@@ -14,7 +16,7 @@ pub enum Verdict {
     Approximate,
 }
 
-#[derive(Drop)]
+#[derive(Clone, Copy)]
 pub enum Outcome {
     // cost and slope are wanted at this step
     Ask(f64),
@@ -24,11 +26,11 @@ pub enum Outcome {
 }
 
 // Finite answers that were accepted.
-#[derive(Drop)]
+#[derive(Clone, Copy)]
 pub struct Evaluations(pub u32);
 
 // Iterations that were finished.
-#[derive(Drop)]
+#[derive(Clone, Copy)]
 pub struct Iterations(pub u32);
 
 // One more. It stops at the largest count, which no search that was started reaches.

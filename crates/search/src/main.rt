@@ -1,5 +1,7 @@
 // Runs the job on standard input, and writes what its search tells to standard output, a line for each outcome.
 
+#![tactic(auto)]
+
 ghost use Rattle.std.specs.Prelude.{◌≡◌, ◌≤◌, length};
 ghost use Rattle.play.specs.Playing.{left_after};
 ghost use Rattle.play.proofs.Ending.{Playable};
@@ -11,7 +13,7 @@ use play::Played;
 use streams::{Filled, Sent};
 
 // What is left of the play after some turns, and what has become of their lines.
-#[derive(Drop)]
+#[derive(Clone, Copy)]
 struct Spoken {
     played: Played,
     sent: Sent,

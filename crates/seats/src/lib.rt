@@ -1,5 +1,7 @@
 // A seat: a search of either kind, with what it last told. How a search comes to sit, and what an answer leaves.
 
+#![tactic(auto)]
+
 ghost use Rattle.std.specs.Prelude.{◌≡◌};
 ghost use Rattle.seats.specs.Seats.{seat_of, hager_zhang_seat, backtracking_seat, answered_of};
 
@@ -7,13 +9,13 @@ use backtracking::Backtracking;
 use hagerzhang::Search;
 use runs::Outcome;
 
-#[derive(Drop)]
+#[derive(Clone, Copy)]
 pub enum Held {
     HagerZhang(Search),
     Backtracks(Backtracking),
 }
 
-#[derive(Drop)]
+#[derive(Clone, Copy)]
 pub struct Seat {
     pub held: Held,
     // what it last told

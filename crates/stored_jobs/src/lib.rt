@@ -1,6 +1,8 @@
 // 02's request 2: "Jobs without tag 2 relied on the old number. Our stored jobs get a field 2 written with the old
 // bounds". The bytes of a stored job, with these.
 
+#![tactic(auto)]
+
 ghost use Rattle.std.specs.Prelude.{◌≡◌};
 ghost use Rattle.text.specs.Text.{Writes};
 ghost use Rattle.stored_jobs.specs.Kept.{relies, kept_of};

@@ -2,6 +2,8 @@
 // standard error says so. It begins with the word LOST. What a system call does no proof can say, so the contracts here
 // say what may come of it, and not which of these.
 
+#![tactic(auto)]
+
 ghost use Rattle.std.specs.Prelude.{◌≡◌, ◌≤◌, min, length};
 ghost use Rattle.io.specs.Counts.{IsPrefixLen};
 ghost use Rattle.streams.specs.Streams.{nothing_sent, counted, Sends, Receives, Fills};
@@ -32,7 +34,7 @@ fn say_lost(stream: &[u8], bytes: u64) {
 // ---- standard output
 
 // What has become of standard output: the bytes that it took, and whether a write has failed.
-#[derive(Drop)]
+#[derive(Clone, Copy)]
 pub struct Sent {
     pub bytes: u64,
     pub lost: bool,
@@ -100,7 +102,7 @@ pub fn send(sent: Sent, page: &[u8], n: usize) -> Sent
 
 // ---- standard input
 
-#[derive(Drop)]
+#[derive(Clone, Copy)]
 pub enum Received {
     // so many bytes, at the front of the buffer
     Bytes(usize),
@@ -126,7 +128,7 @@ pub fn receive(buf: &mut [u8], before: u64) -> Received
     Received::Bytes(n)
 }
 
-#[derive(Drop)]
+#[derive(Clone, Copy)]
 pub enum Filled {
     // so many bytes, at the front of the buffer: all that it holds, or all that the input has left
     With(usize),

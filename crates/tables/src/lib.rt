@@ -1,5 +1,7 @@
 // Up to 32 searches of either kind in one table, and one call that gives many of them their answers.
 
+#![tactic(auto)]
+
 ghost use Rattle.std.specs.Prelude.{◌≡◌, true, ◌%◌, length};
 ghost use Rattle.answers.specs.Answers.{answers_in, all_named};
 ghost use Rattle.tables.specs.Tables.{idle_search, vacant_seat, empty_table, seated_of, given_to, ScanSaid};
@@ -11,7 +13,7 @@ use refusals::Refusal;
 use runs::{Evaluations, Iterations, Outcome};
 use seats::{Held, Seat};
 
-#[derive(Drop)]
+#[derive(Clone, Copy)]
 pub struct Table {
     pub seats: [Seat; 32],
     // how many searches sit in it, in the first seats: the place of its seat is a search's number
@@ -19,20 +21,20 @@ pub struct Table {
 }
 
 // Where a search sits.
-#[derive(Drop)]
+#[derive(Clone, Copy)]
 pub enum Place {
     At(u32),
     // nowhere: all 32 seats are taken
     Full,
 }
 
-#[derive(Drop)]
+#[derive(Clone, Copy)]
 pub struct Seated {
     pub table: Table,
     pub place: Place,
 }
 
-#[derive(Drop)]
+#[derive(Clone, Copy)]
 pub struct Scanned {
     pub table: Table,
     // where the list is refused the table is as it was

@@ -1,6 +1,8 @@
 // Text written into a lent buffer: bytes, words and numbers. Each function writes at a place, as much as there is room
 // for, and answers the place behind it.
 
+#![tactic(auto)]
+
 ghost use Rattle.std.specs.Prelude.{[], ◌∷◌, ◌≡◌, ◌<◌};
 ghost use Rattle.text.specs.Text.{Writes, digit, hex_of, decimal_of, decimal_up_to};
 ghost use Rattle.text.specs.Figures.{next_text, floats_text, floats_line, number_line};

@@ -1,5 +1,7 @@
 // 01's vector routines: dot and scaled point. Any input gets an answer, and no caller owes anything.
 
+#![tactic(auto)]
+
 ghost use Rattle.std.specs.Prelude.{◌≡◌, false, ◌<◌, length};
 ghost use Rattle.std.specs.Float.Ieee.Scale.{finite};
 ghost use Rattle.vectors.specs.Faults.{first};
@@ -8,7 +10,7 @@ ghost use Rattle.vectors.specs.Told.{number_of, DotSaid, PointSaid};
 
 // Why vectors are refused, in the order in which the reasons are tried. An index counts from 0; if several vectors are
 // bad there, none is named.
-#[derive(Drop)]
+#[derive(Clone, Copy)]
 pub enum Refusal {
     // a length is 0 or above 256, or the lengths differ
     Lengths,
@@ -33,13 +35,13 @@ impl Refusal {
     }
 }
 
-#[derive(Drop)]
+#[derive(Clone, Copy)]
 pub enum DotResult {
     Value(f64),
     Refused(Refusal),
 }
 
-#[derive(Drop)]
+#[derive(Clone, Copy)]
 pub enum PointResult {
     // the buffer holds the point
     Written,

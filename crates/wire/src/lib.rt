@@ -1,6 +1,8 @@
 // Numbers in bytes, most significant byte first, floats as their 64 bits. Any bytes have a reading: those past the end
 // are 0.
 
+#![tactic(auto)]
+
 ghost use Rattle.std.specs.Prelude.{◌≡◌, ◌<◌, drop};
 ghost use Rattle.wire.specs.Wire.{byte_at, pair_of, quad_of, word_of, float_of};
 

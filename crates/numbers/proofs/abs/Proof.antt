@@ -9,7 +9,7 @@ use Rattle.numbers.proofs.Bits.{equals_itself, unlike-itself, abs-clears, abs-no
 use Rattle.numbers.proofs.abs.Statement.{statement}
 use Rattle.numbers.proofs.abs.Tie as tie
 
-float-to-bits-result : tie.Need-float-to-bits-result
+float-to-bits-result : tie.Need-float_to_bits-result
 float-to-bits-result c = equals_itself c.before.args.x c.if1.true
 
 returns : tie.Need-returns
@@ -17,7 +17,7 @@ returns c =
     let x = c.before.args.x in
     abs-clears (to_bits binary64 x) ∙ ap abs_of (of_bits-to_bits binary64 x (subst T (sym c.before.well-formed.0.1) tt))
 
-float-from-bits-result : tie.Need-float-from-bits-result
+float-from-bits-result : tie.Need-float_from_bits-result
 float-from-bits-result c =
     let x = c.before.args.x in
     rw (nan_bits_is, returns c) (abs-no-nan x (equals_itself x c.if1.true))

@@ -4,7 +4,7 @@ use Rattle.numbers.proofs.both_finite.Statement.{statement}
 use Rattle.numbers.proofs.both_finite.Tie as tie
 
 returns : tie.Need-returns
-returns c = rw (c.is-finite2.ensures, c.before.is_finite.ensures)
+returns c = rw (c.is_finite-2.ensures, c.before.is_finite.ensures)
 
 pub both-finite-spec : {M : Type 1} → statement M
 both-finite-spec = tie.close (tie.spec (λ c κs. search rules) (λ c κs. search rules) returns)
