@@ -1,0 +1,6 @@
+-- `numbers::both_finite` meets its contract. Assumes nothing.
+use borrow.Author.Rules.{rules}
+use Rattle.numbers.proofs.both_finite.Goals as goal
+
+pub returns : goal.returns
+returns c = rw (c.is_finite-2.ensures, c.is_finite.ensures)

@@ -1,0 +1,5 @@
+-- `runs::Evaluations::next` meets its contract. Assumes nothing.
+use Rattle.runs.proofs.Evaluations.next.Goals as goal
+
+pub returns : goal.returns
+returns c = rw c.one_more.ensures

@@ -1,6 +1,0 @@
--- `runs::Evaluations::next` meets its contract. Assumes nothing.
-use Rattle.runs.proofs.Evaluations.next.Statement.{statement}
-use Rattle.runs.proofs.Evaluations.next.Tie as tie
-
-pub next-spec : {M : Type 1} → statement M
-next-spec = tie.close (tie.spec (λ c κs. tt) (λ c. rw c.one_more.ensures))

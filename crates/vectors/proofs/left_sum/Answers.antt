@@ -1,0 +1,36 @@
+-- `vectors::left_sum` meets its contract: the sum so far, with the products from i on still to add. Assumes nothing.
+use mathlib.Core.Path.{◌≡◌, sym, ◌∙◌}
+use mathlib.Core.List.{foldl}
+use Prim.Native.Nat.{◌-◌, ◌≤◌}
+use native.Mathlib.Omega.{arith}
+use lib.ListN.{length, drop}
+use Rattle.floats.specs.Arithmetic.{◌⊕◌, ◌⊗◌}
+use Rattle.vectors.specs.Vectors.{products, left_sum}
+use Rattle.vectors.proofs.Elements.{sum-start, sum_step, sum-end, zip_length, zip-at}
+use Rattle.vectors.proofs.left_sum.Goals as goal
+
+pub loop-i-init : goal.loop-i-init
+loop-i-init c =
+    let a = c.args.a.now in
+    let b = c.args.b.now in
+    let n : length (products a b) ≡ length a = zip_length ◌⊗◌ a b (omega arith) in
+    let first = zip-at ◌⊗◌ a b 0 (omega arith) (omega arith) in
+    (omega arith, sum-start (products a b) (omega arith) ∙ rw first)
+
+pub loop-i-preserved : goal.loop-i-preserved
+loop-i-preserved c =
+    let l = c in
+    let a = l.args.a.now in
+    let b = l.args.b.now in
+    let i = l.loop-i.i in
+    let n : length (products a b) ≡ length a = zip_length ◌⊗◌ a b (omega arith) in
+    let next = zip-at ◌⊗◌ a b i (omega arith) (omega arith) in
+    (omega arith, l.loop-i.invariant.1 ∙ sum_step _ (products a b) i (omega arith) ∙ rw next)
+
+pub returns : goal.returns
+returns c =
+    let l = c in
+    let a = l.args.a.now in
+    let b = l.args.b.now in
+    let n : length (products a b) ≡ length a = zip_length ◌⊗◌ a b (omega arith) in
+    sym (l.loop-i.invariant.1 ∙ sum-end _ (products a b) l.loop-i.i (omega arith))
