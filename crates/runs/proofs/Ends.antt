@@ -28,7 +28,7 @@ module _ {K : Type 0} where
   stays-over : (o : Ended K) (ys : List Reply) → is_over (after (end o) ys) ≡ true
   unfolding is_over after respond
   stays-over o [] = refl
-  stays-over o (y ∷ ys) = stays-over _ ys
+  stays-over o (y ∷ ys) = stays-over (record { keeps = o.keeps; by = refusal already_over }) ys
 
 module _ {K : Type 0} {finite : Float → Float → Bool} where
   pub ends-within : {n : ℕ} {r : Rest K} → EndsWithin finite n r → (m : ℕ) → n ≤ m → EndsWithin finite m r
@@ -97,4 +97,4 @@ module _ {K : Type 0} {P : Ending Why → Type 0} where
   unfolding after respond
   by_after over r h [] = h
   by_after over (end o) h (y ∷ ys) = by_after over _ (it-ends over) ys
-  by_after over (ask k x then) (it-asks h) (y ∷ ys) = by_after over _ (h y.0 y.1) ys
+  by_after over (ask k x then) (it-asks h) (y ∷ ys) = by_after over (then y.0 y.1) (h y.0 y.1) ys

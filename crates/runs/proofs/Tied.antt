@@ -112,12 +112,12 @@ module _ {S K : Type 0} {m : Machine S} (t : Tied m K) where
   goes_on : (s : S) (r : Rest K) → Stands s r → (ys : List Reply) → Stands (reached m s ys) (after r ys)
   unfolding reached after
   goes_on s r w [] = w
-  goes_on s r w (y ∷ ys) = goes_on _ _ (goes s r w y.0 y.1) ys
+  goes_on s r w (y ∷ ys) = goes_on (m.next s y.0 y.1) (respond r y.0 y.1) (goes s r w y.0 y.1) ys
 
   tells-on : (s : S) (r : Rest K) → Stands s r → (ys : List Reply) → played m s ys ≡ outcomes r ys
   unfolding played outcomes
   tells-on s r w [] = refl
-  tells-on s r w (y ∷ ys) = ap₂ ◌∷◌ (says s r w y.0 y.1) (tells-on _ _ (goes s r w y.0 y.1) ys)
+  tells-on s r w (y ∷ ys) = ap₂ ◌∷◌ (says s r w y.0 y.1) (tells-on (m.next s y.0 y.1) (respond r y.0 y.1) (goes s r w y.0 y.1) ys)
 
   -- the answers that pass a test while the machine asks are those that pass it while the rules ask
   module _ (test : Float → Float → Bool) where
@@ -133,7 +133,7 @@ module _ {S K : Type 0} {m : Machine S} (t : Tied m K) where
     tallies s r w [] = refl
     tallies s r w (y ∷ ys) =
         ap (λ (n : ℕ). cond (not (m.over s) && test y.0 y.1) 1 0 + n)
-        (tallies _ _ (goes s r w y.0 y.1) ys)
+        (tallies (m.next s y.0 y.1) (respond r y.0 y.1) (goes s r w y.0 y.1) ys)
         ∙ accepts (m.over s) r y ys (over-as s r w)
 
   -- the counter, as long as it is below the largest u32

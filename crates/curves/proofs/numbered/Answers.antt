@@ -13,7 +13,7 @@ returns-then-n-gt-COUNT c =
     let n = c.args.n in
     rw (le-leb 1 n c.if-n-lt1.false, lt-leb n 8 c.if-n-gt-COUNT.true)
 
-pub returns-then-n-lt1 : goal.returns
+pub returns : goal.returns
 returns c =
     let n = c.args.n in
     rw (le-leb 1 n c.if-n-lt1.false, le-leb n 8 c.if-n-gt-COUNT.false) (ap value c.curve_at.ensures)

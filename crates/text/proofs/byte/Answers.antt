@@ -8,6 +8,6 @@ pub returns-then-at-out : goal.returns-then-at-out
 unfolding write
 returns-then-at-out c = simp (lt-ltb _ _ c.if-at-out.true)
 
-pub returns-then-at-out : goal.returns
+pub returns : goal.returns
 unfolding write
 returns c = simp (le-ltb _ _ c.if-at-out.false)

@@ -8,10 +8,10 @@ use Rattle.text.specs.Figures.{floats_text}
 use Rattle.text.proofs.Runs.{then-float, all-floats}
 use Rattle.text.proofs.floats.Given as goal
 
-abbrev invariant-loop : goal.invariant-loop
-invariant-loop out₀ at xs p₀ i₀ out p i =
-    (i ≤ length xs) × (length out ≡ length out₀) × Writes out₀ at (floats_text (take i xs)) out p
+abbrev pub invariant-loop-i : goal.invariant-loop-i
+invariant-loop-i l =
+    (l.i ≤ length l.xs) × (length l.out ≡ length l.initial.out) × Writes l.initial.out l.at (floats_text (take l.i l.xs)) l.out l.p
 
-abbrev decreases-loop : goal.decreases-loop
-decreases-loop out₀ at xs p₀ i₀ out p i = length xs - i
+abbrev pub decreases-loop-i : goal.decreases-loop-i
+decreases-loop-i l = length l.xs - l.i
 -- LOOPS [[['loop', 'loop-i'], ['out', 'at', 'xs', 'p', 'i']]]

@@ -6,10 +6,10 @@ use Rattle.text.specs.Text.{Writes}
 use Rattle.text.proofs.Writing.{nothing, then-byte, whole}
 use Rattle.text.proofs.word.Given as goal
 
-abbrev invariant-loop : goal.invariant-loop
-invariant-loop out₀ at w next₀ i₀ out next i =
-    (i ≤ length w) × (length out ≡ length out₀) × Writes out₀ at (take i w) out next
+abbrev pub invariant-loop-i : goal.invariant-loop-i
+invariant-loop-i l =
+    (l.i ≤ length l.w) × (length l.out ≡ length l.initial.out) × Writes l.initial.out l.at (take l.i l.w) l.out l.next
 
-abbrev decreases-loop : goal.decreases-loop
-decreases-loop out₀ at w next₀ i₀ out next i = length w - i
+abbrev pub decreases-loop-i : goal.decreases-loop-i
+decreases-loop-i l = length l.w - l.i
 -- LOOPS [[['loop', 'loop-i'], ['out', 'at', 'w', 'next', 'i']]]

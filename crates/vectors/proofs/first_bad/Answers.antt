@@ -12,23 +12,23 @@ use Rattle.vectors.proofs.first_bad.Goals as goal
 
 pub returns-then-not-both_finite : goal.returns-then-not-both_finite
 returns-then-not-both_finite c =
-    let l = c in
+    let l = c.before in
     let a = l.args in
     let both = c.both_finite.ensures in
-    let here = tested a.xs.now a.ys.now l.loop-i.i _ true both c.if-not-both_finite.true in
+    let here = tested a.xs.now a.ys.now l.loop-i.i _ true both c.if-not-both_finite.true-raw in
     sym (first-is _ _ _ record { below = omega arith; holds = here; lowest = l.loop-i.invariant.1 })
 
 pub loop-i-preserved : goal.loop-i-preserved
 loop-i-preserved c =
-    let l = c in
+    let l = c.before in
     let a = l.args in
     let both = c.both_finite.ensures in
-    let here = tested a.xs.now a.ys.now l.loop-i.i _ false both c.if-not-both_finite.false in
+    let here = tested a.xs.now a.ys.now l.loop-i.i _ false both c.if-not-both_finite.false-raw in
     (omega arith, below_more _ _ l.loop-i.invariant.1 here)
 
-pub returns-then-not-both_finite : goal.returns
+pub returns : goal.returns
 returns c =
-    let l = c in
+    let l = c.before in
     let a = l.args in
     let end : l.loop-i.i ≡ length a.xs.now = omega arith in
     end ∙ sym (first-none (bad_in_any a.xs.now a.ys.now) _ (λ j h. l.loop-i.invariant.1 j (omega arith)))

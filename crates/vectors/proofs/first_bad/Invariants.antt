@@ -9,9 +9,9 @@ use Rattle.vectors.proofs.First.{first-is, first-none}
 use Rattle.vectors.proofs.Faults.{tested}
 use Rattle.vectors.proofs.first_bad.Given as goal
 
-abbrev invariant-loop : goal.invariant-loop
-invariant-loop xs ys i₀ i = (i ≤ length xs) × ((j : ℕ) → j < i → bad_in_any xs ys j ≡ false)
+abbrev pub invariant-loop-i : goal.invariant-loop-i
+invariant-loop-i l = (l.i ≤ length l.xs) × ((j : ℕ) → j < l.i → bad_in_any l.xs l.ys j ≡ false)
 
-abbrev decreases-loop : goal.decreases-loop
-decreases-loop xs ys i₀ i = length xs - i
+abbrev pub decreases-loop-i : goal.decreases-loop-i
+decreases-loop-i l = length l.xs - l.i
 -- LOOPS [[['loop', 'loop-i'], ['xs', 'ys', 'i']]]

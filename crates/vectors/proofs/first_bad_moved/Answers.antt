@@ -13,25 +13,25 @@ use Rattle.vectors.proofs.first_bad_moved.Goals as goal
 
 pub returns-then-not-is_finite : goal.returns-then-not-is_finite
 returns-then-not-is_finite c =
-    let l = c in
+    let l = c.before in
     let a = l.args in
     let element = zip-at (moved_by a.alpha) a.x0.now a.d.now l.loop-i.i (omega arith) (omega arith) in
     let here : bad (moved a.x0.now a.alpha a.d.now) l.loop-i.i ≡ true =
-    ap not (ap finite element ∙ sym c.is_finite.ensures) ∙ c.if-not-is_finite.true in
+    ap not (ap finite element ∙ sym c.is_finite.ensures) ∙ c.if-not-is_finite.true-raw in
     sym (first-is _ _ _ record { below = omega arith; holds = here; lowest = l.loop-i.invariant.1 })
 
 pub loop-i-preserved : goal.loop-i-preserved
 loop-i-preserved c =
-    let l = c in
+    let l = c.before in
     let a = l.args in
     let element = zip-at (moved_by a.alpha) a.x0.now a.d.now l.loop-i.i (omega arith) (omega arith) in
     let here : bad (moved a.x0.now a.alpha a.d.now) l.loop-i.i ≡ false =
-    ap not (ap finite element ∙ sym c.is_finite.ensures) ∙ c.if-not-is_finite.false in
+    ap not (ap finite element ∙ sym c.is_finite.ensures) ∙ c.if-not-is_finite.false-raw in
     (omega arith, below_more _ _ l.loop-i.invariant.1 here)
 
-pub returns-then-not-is_finite : goal.returns
+pub returns : goal.returns
 returns c =
-    let l = c in
+    let l = c.before in
     let a = l.args in
     let m = moved a.x0.now a.alpha a.d.now in
     let end : l.loop-i.i ≡ length a.x0.now = omega arith in

@@ -10,9 +10,9 @@ use Rattle.vectors.proofs.Elements.{zip-at}
 use Rattle.vectors.proofs.First.{first-is, first-none}
 use Rattle.vectors.proofs.first_bad_moved.Given as goal
 
-abbrev invariant-loop : goal.invariant-loop
-invariant-loop x0 alpha d i₀ i = (i ≤ length x0) × ((j : ℕ) → j < i → bad (moved x0 alpha d) j ≡ false)
+abbrev pub invariant-loop-i : goal.invariant-loop-i
+invariant-loop-i l = (l.i ≤ length l.x0) × ((j : ℕ) → j < l.i → bad (moved l.x0 l.alpha l.d) j ≡ false)
 
-abbrev decreases-loop : goal.decreases-loop
-decreases-loop x0 alpha d i₀ i = length x0 - i
+abbrev pub decreases-loop-i : goal.decreases-loop-i
+decreases-loop-i l = length l.x0 - l.i
 -- LOOPS [[['loop', 'loop-i'], ['x0', 'alpha', 'd', 'i']]]

@@ -26,31 +26,31 @@ loop-i-init c =
 
 pub returns-then-not-is_finite : goal.returns-then-not-is_finite
 returns-then-not-is_finite c =
-    let l = c in
+    let l = c.before in
     let inv = l.loop-i.invariant in
-    let e = ap finite (sym inv.2) ∙ sym c.is_finite.ensures ∙ not-true _ c.if-not-is_finite.true in
+    let e = ap finite (sym inv.2) ∙ sym c.is_finite.ensures ∙ c.if-not-is_finite.true in
     overflow-found _ _ l.loop-i.i inv.0 inv.1 e inv.3
 
 pub loop-i-preserved : goal.loop-i-preserved
 loop-i-preserved c =
-    let l = c in
+    let l = c.before in
     let inv = l.loop-i.invariant in
     let i = l.loop-i.i in
     let a = l.args.a.now in
     let b = l.args.b.now in
     let n : length (products a b) ≡ length a = zip_length ◌⊗◌ a b (omega arith) in
     let next = zip-at ◌⊗◌ a b i (omega arith) (omega arith) in
-    let test = c in
-    let e = ap finite (sym inv.2) ∙ sym test.is_finite.ensures ∙ not-false _ test.if-not-is_finite.false in (
+    let test = c.before in
+    let e = ap finite (sym inv.2) ∙ sym test.is_finite.ensures ∙ test.if-not-is_finite.false in (
       omega arith,
       omega arith,
       rw (inv.2, ← next, add-one) (sym (sum-next (products a b) i inv.0 (omega arith))),
       below_more (λ k. 0 < k → finite (left_sum (take k (products a b))) ≡ true) i inv.3 (λ p. e),
     )
 
-pub returns-then-not-is_finite : goal.returns
+pub returns : goal.returns
 returns c =
-    let l = c in
+    let l = c.before in
     let inv = l.loop-i.invariant in
     let a = l.args.a.now in
     let b = l.args.b.now in

@@ -14,13 +14,13 @@ use Rattle.vectors.proofs.Elements.{zip_length, zip-at}
 use Rattle.vectors.proofs.PartialSums.{sum_first, sum-next, overflow-found}
 use Rattle.vectors.proofs.first_overflow.Given as goal
 
-abbrev invariant-loop : goal.invariant-loop
-invariant-loop a b sum₀ i₀ sum i =
-    (0 < i)
-    × (i ≤ length a)
-    × (sum ≡ left_sum (take i (products a b)))
-    × ((k : ℕ) → k < i → 0 < k → finite (left_sum (take k (products a b))) ≡ true)
+abbrev pub invariant-loop-i : goal.invariant-loop-i
+invariant-loop-i l =
+    (0 < l.i)
+    × (l.i ≤ length l.a)
+    × (l.sum ≡ left_sum (take l.i (products l.a l.b)))
+    × ((k : ℕ) → k < l.i → 0 < k → finite (left_sum (take k (products l.a l.b))) ≡ true)
 
-abbrev decreases-loop : goal.decreases-loop
-decreases-loop a b sum₀ i₀ sum i = length a - i
+abbrev pub decreases-loop-i : goal.decreases-loop-i
+decreases-loop-i l = length l.a - l.i
 -- LOOPS [[['loop', 'loop-i'], ['a', 'b', 'sum', 'i']]]

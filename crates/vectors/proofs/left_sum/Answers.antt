@@ -19,7 +19,7 @@ loop-i-init c =
 
 pub loop-i-preserved : goal.loop-i-preserved
 loop-i-preserved c =
-    let l = c in
+    let l = c.before in
     let a = l.args.a.now in
     let b = l.args.b.now in
     let i = l.loop-i.i in
@@ -29,7 +29,7 @@ loop-i-preserved c =
 
 pub returns : goal.returns
 returns c =
-    let l = c in
+    let l = c.before in
     let a = l.args.a.now in
     let b = l.args.b.now in
     let n : length (products a b) ≡ length a = zip_length ◌⊗◌ a b (omega arith) in

@@ -8,9 +8,9 @@ use Rattle.vectors.specs.Vectors.{products, left_sum}
 use Rattle.vectors.proofs.Elements.{sum-start, sum_step, sum-end, zip_length, zip-at}
 use Rattle.vectors.proofs.left_sum.Given as goal
 
-abbrev invariant-loop : goal.invariant-loop
-invariant-loop a b s₀ i₀ s i = (i ≤ length a) × (left_sum (products a b) ≡ foldl ◌⊕◌ s (drop i (products a b)))
+abbrev pub invariant-loop-i : goal.invariant-loop-i
+invariant-loop-i l = (l.i ≤ length l.a) × (left_sum (products l.a l.b) ≡ foldl ◌⊕◌ l.s (drop l.i (products l.a l.b)))
 
-abbrev decreases-loop : goal.decreases-loop
-decreases-loop a b s₀ i₀ s i = length a - i
+abbrev pub decreases-loop-i : goal.decreases-loop-i
+decreases-loop-i l = length l.a - l.i
 -- LOOPS [[['loop', 'loop-i'], ['a', 'b', 's', 'i']]]

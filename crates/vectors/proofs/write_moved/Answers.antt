@@ -12,7 +12,7 @@ use Rattle.vectors.proofs.write_moved.Goals as goal
 
 pub loop-i-preserved : goal.loop-i-preserved
 loop-i-preserved c =
-    let l = c in
+    let l = c.before in
     let a = l.args in
     let m = moved a.x0.now a.alpha a.d.now in
     let i = l.loop-i.i in
@@ -25,7 +25,7 @@ loop-i-preserved c =
 
 pub returns : goal.returns
 returns c =
-    let l = c in
+    let l = c.before in
     let a = l.args in
     let m = moved a.x0.now a.alpha a.d.now in
     let n : length m ≡ length a.x0.now = zip_length (moved_by a.alpha) _ _ l.requires.0 in

@@ -8,10 +8,10 @@ use Rattle.vectors.specs.Vectors.{moved, moved_by}
 use Rattle.vectors.proofs.Elements.{zip_length, zip-at, store, stored}
 use Rattle.vectors.proofs.write_moved.Given as goal
 
-abbrev invariant-loop : goal.invariant-loop
-invariant-loop x0 alpha d out₀ i₀ out i =
-    (i ≤ length x0) × (length out ≡ length out₀) × (out ≡ take i (moved x0 alpha d) ++ drop i out₀)
+abbrev pub invariant-loop-i : goal.invariant-loop-i
+invariant-loop-i l =
+    (l.i ≤ length l.x0) × (length l.out ≡ length l.initial.out) × (l.out ≡ take l.i (moved l.x0 l.alpha l.d) ++ drop l.i l.initial.out)
 
-abbrev decreases-loop : goal.decreases-loop
-decreases-loop x0 alpha d out₀ i₀ out i = length x0 - i
+abbrev pub decreases-loop-i : goal.decreases-loop-i
+decreases-loop-i l = length l.x0 - l.i
 -- LOOPS [[['loop', 'loop-i'], ['x0', 'alpha', 'd', 'out', 'i']]]

@@ -22,5 +22,5 @@ none_left s at h =
 pub returns-then-at-n : goal.returns-then-at-n
 returns-then-at-n c = rest-whole c.args.s.now c.args.at
 
-pub returns-then-at-n : goal.returns
+pub returns : goal.returns
 returns c = none_left c.args.s.now c.args.at (omega arith)
