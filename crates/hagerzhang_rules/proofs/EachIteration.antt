@@ -4,7 +4,7 @@ use mathlib.Core.Path.{◌≡◌, refl}
 use mathlib.Core.Bool.{true, ◌&&◌}
 use mathlib.Core.List.{List, [], ◌∷◌}
 use mathlib.Core.Logic.{inl}
-use mathlib.Core.Option.{Option, some}
+use mathlib.Core.Option.{Option, some, none}
 use Prim.Native.Nat.{ℕ, zero, suc, ◌+◌, ◌*◌, ◌≤◌, ◌<◌}
 use native.Mathlib.Omega.{arith}
 use lib.ListN.{length}
@@ -91,6 +91,7 @@ module _ (s : Setup) (f_l : finite s.level ≡ true) (p : Summary) (fine : Fine 
   unfolding updating
   updates-by asked (some came) then then' room stands none-had at (reaches i) go =
       narrows s k fine below (alone s k w) F B asked came then then' room stands (omega arith) at i go
+  updates-by asked none then then' room stands none-had at sound go = elim sound [ ]
 
   updates : (asked : List Point) (u : Bracket) (c : Point) (then : Bracket → Rest Report)
       (then' : Bracket → Alone Iterated)
