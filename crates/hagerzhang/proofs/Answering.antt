@@ -78,11 +78,13 @@ awaited s (Open waiting) = refl
 awaited s (Over kept) = refl
 
 -- what `held` and `awaited` promise of their results
-pub held-promised : (s : Search) (r : Kept) → r ≡ held_of s → (r ≡ held_of s) × (kept_report r ≡ reported (meant s))
-held-promised s r e = (e, ap kept_report e ∙ sym (reports s.setup s.stage))
+pub held-promised : (s : Search) (r : Kept) → r ≡ held_of s
+    → record { exact : r ≡ held_of s; rules : kept_report r ≡ reported (meant s) }
+held-promised s r e = record { exact = e; rules = ap kept_report e ∙ sym (reports s.setup s.stage) }
 
-pub awaited-promised : (s : Search) (r : Due) → r ≡ awaited_of s → (r ≡ awaited_of s) × (due_told r ≡ awaits (meant s))
-awaited-promised s r e = (e, ap due_told e ∙ sym (awaited s.setup s.stage))
+pub awaited-promised : (s : Search) (r : Due) → r ≡ awaited_of s
+    → record { exact : r ≡ awaited_of s; rules : due_told r ≡ awaits (meant s) }
+awaited-promised s r e = record { exact = e; rules = ap due_told e ∙ sym (awaited s.setup s.stage) }
 
 -- ---- what a finite answer to any state can come to
 -- what is told is an ask exactly while the search is not over

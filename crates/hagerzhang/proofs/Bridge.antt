@@ -320,8 +320,8 @@ module _ (s : Search) (h : s.setup.options.limit < 4294967296) (real : is_nan s.
 
 -- what `answer` promises of its result
 pub promised : (s : Search) (f g : Float) → s.setup.options.limit < 4294967296 → (r : Turn) → AnswerSaid s f g r
-    → AnswerSaid s f g r × (is_nan s.setup.level ≡ false → Follows s f g r)
-promised s f g h r e = (e, λ real. follows s h real f g r e)
+    → record { exact : AnswerSaid s f g r; rules : is_nan s.setup.level ≡ false → Follows s f g r }
+promised s f g h r e = record { exact = e; rules = λ real. follows s h real f g r e }
 
 -- ---- `start`, in either way
 begins-by : (s : Setup) (way : Way)
@@ -369,5 +369,6 @@ module _ (o : Options) (f0 s0 : Float) where
   starts (NoSearch k) e = record { stands-for = ap stands e ∙ start-stands; tells_first = ap says e ∙ start-says }
 
   -- what `start` promises of its result
-  pub start-promised : (r : Started) → StartSaid o f0 s0 r → StartSaid o f0 s0 r × Starts o f0 s0 r
-  start-promised r e = (e, starts r e)
+  pub start-promised : (r : Started) → StartSaid o f0 s0 r
+      → record { exact : StartSaid o f0 s0 r; rules : Starts o f0 s0 r }
+  start-promised r e = record { exact = e; rules = starts r e }
