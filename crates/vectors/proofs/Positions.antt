@@ -32,11 +32,13 @@ module _ {x y i : ℕ} {c1 c2 c4 : Bool} where
   by_2 (this e t) = let z = ap number_in e in absurd (omega arith)
   by_2 (later f (this e t)) = (f, t, cc)
   by_2 (later f (later g (this e t))) = let z = ap number_in e in absurd (omega arith)
+  by_2 (later f (later g (later _ x17))) = elim x17 [ ]
 
   by_4 : First (4 at i) ((alone 1, c1) ∷ (2 at x, c2) ∷ (4 at y, c4) ∷ []) → (c1 ≡ false) × (c4 ≡ true) × (y ≡ i)
   by_4 (this e t) = let z = ap number_in e in absurd (omega arith)
   by_4 (later f (this e t)) = let z = ap number_in e in absurd (omega arith)
   by_4 (later f (later g (this e t))) = (f, t, cc)
+  by_4 (later f (later g (later _ x17))) = elim x17 [ ]
 
 row-given : {A : Type 0} (rows : List (RowBy Fault)) (v : A) (k : Fault) → (refuse rows else v) ≡ refused k
     → First k rows

@@ -1,6 +1,6 @@
 -- `vectors::first_bad` meets its contract: at no index that was passed is either vector bad. Assumes nothing.
-use mathlib.Core.Path.{◌≡◌, sym, ◌∙◌}
-use mathlib.Core.Bool.{true, false}
+use mathlib.Core.Path.{◌≡◌, sym, ap, ◌∙◌}
+use mathlib.Core.Bool.{true, false, not}
 use Prim.Native.Nat.{ℕ, ◌-◌, ◌≤◌, ◌<◌}
 use native.Mathlib.Omega.{arith}
 use borrow.Author.Count.{below_none, below_more}
@@ -15,7 +15,7 @@ returns-then-not-both_finite c =
     let l = c.before in
     let a = l.args in
     let both = c.both_finite.ensures in
-    let here = tested a.xs.now a.ys.now l.loop-i.i _ true both c.if-not-both_finite.true-raw in
+    let here = tested a.xs.now a.ys.now l.loop-i.i _ true both (ap not c.if-not-both_finite.true) in
     sym (first-is _ _ _ record { below = omega arith; holds = here; lowest = l.loop-i.invariant.1 })
 
 pub loop-i-preserved : goal.loop-i-preserved
@@ -23,7 +23,7 @@ loop-i-preserved c =
     let l = c.before in
     let a = l.args in
     let both = c.both_finite.ensures in
-    let here = tested a.xs.now a.ys.now l.loop-i.i _ false both c.if-not-both_finite.false-raw in
+    let here = tested a.xs.now a.ys.now l.loop-i.i _ false both (ap not c.if-not-both_finite.false) in
     (omega arith, below_more _ _ l.loop-i.invariant.1 here)
 
 pub returns : goal.returns

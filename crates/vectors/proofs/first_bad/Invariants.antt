@@ -14,4 +14,3 @@ invariant-loop-i l = (l.i ≤ length l.xs) × ((j : ℕ) → j < l.i → bad_in_
 
 abbrev pub decreases-loop-i : goal.decreases-loop-i
 decreases-loop-i l = length l.xs - l.i
--- LOOPS [[['loop', 'loop-i'], ['xs', 'ys', 'i']]]

@@ -17,7 +17,7 @@ returns-then-not-is_finite c =
     let a = l.args in
     let element = zip-at (moved_by a.alpha) a.x0.now a.d.now l.loop-i.i (omega arith) (omega arith) in
     let here : bad (moved a.x0.now a.alpha a.d.now) l.loop-i.i ≡ true =
-    ap not (ap finite element ∙ sym c.is_finite.ensures) ∙ c.if-not-is_finite.true-raw in
+    ap not (ap finite element ∙ sym c.is_finite.ensures) ∙ ap not c.if-not-is_finite.true in
     sym (first-is _ _ _ record { below = omega arith; holds = here; lowest = l.loop-i.invariant.1 })
 
 pub loop-i-preserved : goal.loop-i-preserved
@@ -26,7 +26,7 @@ loop-i-preserved c =
     let a = l.args in
     let element = zip-at (moved_by a.alpha) a.x0.now a.d.now l.loop-i.i (omega arith) (omega arith) in
     let here : bad (moved a.x0.now a.alpha a.d.now) l.loop-i.i ≡ false =
-    ap not (ap finite element ∙ sym c.is_finite.ensures) ∙ c.if-not-is_finite.false-raw in
+    ap not (ap finite element ∙ sym c.is_finite.ensures) ∙ ap not c.if-not-is_finite.false in
     (omega arith, below_more _ _ l.loop-i.invariant.1 here)
 
 pub returns : goal.returns

@@ -15,4 +15,3 @@ invariant-loop-i l = (l.i ≤ length l.x0) × ((j : ℕ) → j < l.i → bad (mo
 
 abbrev pub decreases-loop-i : goal.decreases-loop-i
 decreases-loop-i l = length l.x0 - l.i
--- LOOPS [[['loop', 'loop-i'], ['x0', 'alpha', 'd', 'i']]]

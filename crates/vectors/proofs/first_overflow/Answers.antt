@@ -57,4 +57,4 @@ returns c =
     let n : length (products a b) ≡ length a = zip_length ◌⊗◌ a b (omega arith) in
     let whole = take_all l.loop-i.i (products a b) (omega arith) in
     overflow-found _ _ l.loop-i.i inv.0 inv.1
-    (ap (λ ps. finite (left_sum ps)) whole ∙ l.requires.1) inv.3
+    (ap (λ ps. finite (left_sum ps)) whole ∙ l.requires.b_value) inv.3

@@ -23,4 +23,3 @@ invariant-loop-i l =
 
 abbrev pub decreases-loop-i : goal.decreases-loop-i
 decreases-loop-i l = length l.a - l.i
--- LOOPS [[['loop', 'loop-i'], ['a', 'b', 'sum', 'i']]]

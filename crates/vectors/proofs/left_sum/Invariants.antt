@@ -13,4 +13,3 @@ invariant-loop-i l = (l.i ≤ length l.a) × (left_sum (products l.a l.b) ≡ fo
 
 abbrev pub decreases-loop-i : goal.decreases-loop-i
 decreases-loop-i l = length l.a - l.i
--- LOOPS [[['loop', 'loop-i'], ['a', 'b', 's', 'i']]]

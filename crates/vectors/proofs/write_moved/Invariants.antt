@@ -14,4 +14,3 @@ invariant-loop-i l =
 
 abbrev pub decreases-loop-i : goal.decreases-loop-i
 decreases-loop-i l = length l.x0 - l.i
--- LOOPS [[['loop', 'loop-i'], ['x0', 'alpha', 'd', 'out', 'i']]]
