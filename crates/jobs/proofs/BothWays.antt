@@ -106,6 +106,7 @@ module _ (t k n : ℕ) (next : k ≡ suc t) (known : size_of k ≡ some n) where
 
   passed : (fs : List Field) (s : List ℕ) → WellFormed t fs s → Passed k n fs s
   passed [] [] nothing = at-end
+  passed [] (_ ∷ _) held = elim held [ ]
   passed (f ∷ fs) s (field {s = s'} above size more) = by-tag (eqb f.tag k) refl
     where
       by-tag : (b : Bool) → eqb f.tag k ≡ b → Passed k n (f ∷ fs) (written f ++ s')
@@ -137,6 +138,7 @@ unknown tag n h e =
 
 none_left : (fs : List Field) (s : List ℕ) → WellFormed 6 fs s → length s ≡ 0
 none_left [] [] nothing = refl
+none_left [] (_ ∷ _) held = elim held [ ]
 none_left (f ∷ fs) s (field above size more) = absurd (unknown f.tag (length f.body) above size)
 
 -- bytes that hold fields in 01's form are read as what these say, whatever the defaults are

@@ -1,0 +1,35 @@
+-- `answers::all_named` meets its contract: the answers before i name searches, and what is left decides. Assumes
+-- nothing.
+use Rattle.std.proofs.Common.{◌≡◌, ◌-◌, ◌≤◌, length, drop, sym, refl, ◌∙◌, arith}
+use lib.Ieee.{nan}
+use Rattle.answers.specs.Answers.{answers_in, all_named}
+use Rattle.answers.proofs.Lists.{unnamed, named_step, all_seen}
+use Rattle.answers.proofs.all_named.Goals as goal
+
+pub loop-i-init : goal.loop-i-init
+loop-i-init c = (omega arith, refl)
+
+-- the answer at i names none
+pub returns-then-n-number : goal.returns-then-n-number
+returns-then-n-number c =
+    let l = c.before in
+    let a = l.args in
+    let n = c.number.ensures in
+    let t = c.if-n-number.true in
+    sym (l.loop-i.invariant.1 ∙ unnamed a.n a.list.now l.loop-i.i nan (omega arith) (omega arith))
+
+pub loop-i-preserved : goal.loop-i-preserved
+loop-i-preserved c =
+    let l = c.before in
+    let a = l.args in
+    let n = c.number.ensures in
+    let t = c.if-n-number.false in (
+      omega arith,
+      l.loop-i.invariant.1 ∙ named_step a.n a.list.now l.loop-i.i nan (omega arith) (omega arith),
+    )
+
+pub returns : goal.returns
+returns c =
+    let l = c.before in
+    let a = l.args in
+    sym (l.loop-i.invariant.1 ∙ all_seen a.n a.list.now l.loop-i.i nan (omega arith))
