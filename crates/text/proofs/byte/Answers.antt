@@ -1,5 +1,4 @@
 -- `text::byte` meets its contract. Assumes nothing.
-use borrow.Author.Rules.{rules}
 use borrow.Author.Tests.{lt-ltb, le-ltb}
 use Rattle.text.specs.Text.{write}
 use Rattle.text.proofs.byte.Goals as goal

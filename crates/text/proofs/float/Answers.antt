@@ -1,9 +1,6 @@
 -- `text::float` meets its contract. Assumes nothing.
-use borrow.Author.Rules.{rules}
 use Rattle.text.proofs.Writing.{then}
 use Rattle.text.proofs.float.Goals as goal
 
 pub returns : goal.returns
-returns c = let h = c in
-    let b = h in
-    then _ _ _ b.byte-digits.ensures (rw h.bits_of.ensures at h.hex.ensures)
+returns c = then _ _ _ c.byte-digits.ensures (rw c.bits_of.ensures at c.hex.ensures)
