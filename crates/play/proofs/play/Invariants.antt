@@ -1,0 +1,16 @@
+use mathlib.Core.Path.{◌≡◌, refl, ◌∙◌}
+use lib.ListN.{length}
+use borrow.Author.Rules.{rules}
+use Rattle.text.specs.Text.{page}
+use Rattle.play.specs.Playing.{left_after}
+use Rattle.play.proofs.Turns.{ahead, at-over, at_last, turn-left, turn-ahead}
+use Rattle.play.proofs.play.Given as goal
+
+abbrev pub invariant-loop-left : goal.invariant-loop-left
+invariant-loop-left l =
+    (length l.out ≡ length l.initial.out) × (left_after l.left l.c l.played ≡ left_after l.turns l.c l.initial.played)
+    × (ahead l.c l.left l.played (page l.out l.next) ≡ ahead l.c l.turns l.initial.played (page l.initial.out l.at))
+
+abbrev pub decreases-loop-left : goal.decreases-loop-left
+decreases-loop-left l = l.left
+-- LOOPS [[['loop', 'loop-left'], ['c', 'turns', 'out', 'at', 'played', 'next', 'left']]]
