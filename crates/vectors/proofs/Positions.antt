@@ -57,7 +57,8 @@ first_then p n i e never = ⊎_elim (λ it. it) (λ over. absurd (never over)) (
 
 -- ---- a dot
 
-last-bad : (ps : List Float) (n : ℕ) → length ps ≡ n → 0 < n → finite (left_sum ps) ≡ false → n ≤ first (sum_bad ps) n → ⊥
+last-bad : (ps : List Float) (n : ℕ) → length ps ≡ n → 0 < n → finite (left_sum ps) ≡ false
+    → n ≤ first (sum_bad ps) n → ⊥
 last-bad ps zero long h e over = not-suc-le-zero h
 last-bad ps (suc m) long h e over =
     let end = none_found (sum_bad ps) (suc m) _ refl over in

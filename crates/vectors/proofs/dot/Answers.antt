@@ -4,24 +4,14 @@ use mathlib.Core.Bool.{false, not, ◌||◌}
 use Prim.Native.Nat.{ℕ}
 use lib.Dec.{eqb}
 use lib.Ieee.Scale.{finite}
-use borrow.Author.Tests.{eq-eqb, ne_eqb}
+use borrow.Author.Tests.{eq-eqb}
 use Rattle.vectors.specs.Vectors.{bad_length}
-use Rattle.vectors.proofs.Elements.{not-empty}
 use Rattle.vectors.proofs.Faults.{bad-in-any, bad-in-none}
 use Rattle.vectors.proofs.dot.Goals as goal
 
 -- row 1 does not refuse
 lengths-ok : (n m : ℕ) → bad_length n ≡ false → n ≡ m → (bad_length n || not (eqb n m)) ≡ false
 lengths-ok n m f e = rw (f, eq-eqb _ _ e)
-
-pub returns-then-bad_length : goal.returns-then-bad_length
-returns-then-bad_length c = rw (sym c.bad_length.ensures ∙ c.if-bad_length.true)
-
-pub returns-then-n-b : goal.returns-then-n-b
-returns-then-n-b c = rw (sym c.bad_length.ensures ∙ c.if-bad_length.false, ne_eqb _ _ c.if-n-b.true)
-
-pub first_bad-i-requires : goal.first_bad-i-requires
-first_bad-i-requires c = c.if-n-b.false
 
 pub returns-then-i-n : goal.returns-then-i-n
 returns-then-i-n c =
@@ -30,9 +20,6 @@ returns-then-i-n c =
     let found = c.first_bad-i.ensures in
     rw (fits, bad-in-any s.a.now s.b.now c.if-n-b.false _ found c.if-i-n.true, found)
 
-pub left_sum-s-requires : goal.left_sum-s-requires
-left_sum-s-requires c = (not-empty _ (sym c.bad_length.ensures ∙ c.if-bad_length.false), c.if-n-b.false)
-
 pub returns-then-is_finite : goal.returns-then-is_finite
 returns-then-is_finite c =
     let s = c.args in
@@ -40,12 +27,6 @@ returns-then-is_finite c =
     let supplied = bad-in-none s.a.now s.b.now c.if-n-b.false _ c.first_bad-i.ensures c.if-i-n.false in
     let sum = ap finite (sym c.left_sum-s.ensures) ∙ sym c.is_finite.ensures ∙ c.if-is_finite.true in
     rw (fits, supplied, sum, c.left_sum-s.ensures)
-
-pub first_overflow-requires : goal.first_overflow-requires
-first_overflow-requires c = record {
-  a_nonzero = (not-empty _ (sym c.bad_length.ensures ∙ c.if-bad_length.false), c.if-n-b.false);
-  b_value = ap finite (sym c.left_sum-s.ensures) ∙ sym c.is_finite.ensures ∙ c.if-is_finite.false;
-}
 
 pub returns-else-is_finite : goal.returns-else-is_finite
 returns-else-is_finite c =

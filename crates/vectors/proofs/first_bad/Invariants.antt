@@ -1,12 +1,9 @@
-use mathlib.Core.Path.{◌≡◌, sym, ◌∙◌}
-use mathlib.Core.Bool.{true, false}
+-- The loop of `vectors::first_bad`: at no index that was passed is either vector bad.
+use mathlib.Core.Path.{◌≡◌}
+use mathlib.Core.Bool.{false}
 use Prim.Native.Nat.{ℕ, ◌-◌, ◌≤◌, ◌<◌}
-use native.Mathlib.Omega.{arith}
-use borrow.Author.Count.{below_none, below_more}
 use lib.ListN.{length}
 use Rattle.vectors.specs.Vectors.{bad_in_any}
-use Rattle.vectors.proofs.First.{first-is, first-none}
-use Rattle.vectors.proofs.Faults.{tested}
 use Rattle.vectors.proofs.first_bad.Given as goal
 
 abbrev pub invariant-loop-i : goal.invariant-loop-i

@@ -1,9 +1,8 @@
 -- `vectors::first_bad_moved` meets its contract: at no index that was passed is the moved point bad. Assumes nothing.
 use mathlib.Core.Path.{◌≡◌, sym, ap, ◌∙◌}
 use mathlib.Core.Bool.{true, false, not}
-use Prim.Native.Nat.{ℕ, ◌-◌, ◌≤◌, ◌<◌}
 use native.Mathlib.Omega.{arith}
-use borrow.Author.Count.{below_none, below_more}
+use borrow.Author.Count.{below_more}
 use lib.ListN.{length}
 use lib.Ieee.Scale.{finite}
 use Rattle.vectors.specs.Vectors.{bad, moved, moved_by}
@@ -36,6 +35,3 @@ returns c =
     let m = moved a.x0.now a.alpha a.d.now in
     let end : l.loop-i.i ≡ length a.x0.now = omega arith in
     end ∙ sym (first-none (bad m) _ (λ j h. l.loop-i.invariant.1 j (omega arith)))
-
-pub loop-i-init : goal.loop-i-init
-loop-i-init c = (omega arith, below_none _)

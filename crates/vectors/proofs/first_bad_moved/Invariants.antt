@@ -1,13 +1,9 @@
-use mathlib.Core.Path.{◌≡◌, sym, ap, ◌∙◌}
-use mathlib.Core.Bool.{true, false, not}
+-- The loop of `vectors::first_bad_moved`: at no index that was passed is the moved point bad.
+use mathlib.Core.Path.{◌≡◌}
+use mathlib.Core.Bool.{false}
 use Prim.Native.Nat.{ℕ, ◌-◌, ◌≤◌, ◌<◌}
-use native.Mathlib.Omega.{arith}
-use borrow.Author.Count.{below_none, below_more}
 use lib.ListN.{length}
-use lib.Ieee.Scale.{finite}
-use Rattle.vectors.specs.Vectors.{bad, moved, moved_by}
-use Rattle.vectors.proofs.Elements.{zip-at}
-use Rattle.vectors.proofs.First.{first-is, first-none}
+use Rattle.vectors.specs.Vectors.{bad, moved}
 use Rattle.vectors.proofs.first_bad_moved.Given as goal
 
 abbrev pub invariant-loop-i : goal.invariant-loop-i

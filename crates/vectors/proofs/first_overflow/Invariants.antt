@@ -1,17 +1,10 @@
-use mathlib.Core.Path.{◌≡◌, sym, ap, ◌∙◌}
+-- The loop of `vectors::first_overflow`: the sum is that of the first i products, and those of fewer are finite.
+use mathlib.Core.Path.{◌≡◌}
 use mathlib.Core.Bool.{true}
 use Prim.Native.Nat.{ℕ, ◌-◌, ◌≤◌, ◌<◌}
-use native.Mathlib.Numerals.{add-one}
-use native.Mathlib.Omega.{arith}
-use borrow.Author.Count.{below_more}
-use borrow.Author.Tests.{not-true, not-false}
 use lib.ListN.{length, take}
-use lib.Seq.{take_all}
 use lib.Ieee.Scale.{finite}
-use Rattle.floats.specs.Arithmetic.{◌⊗◌}
 use Rattle.vectors.specs.Vectors.{products, left_sum}
-use Rattle.vectors.proofs.Elements.{zip_length, zip-at}
-use Rattle.vectors.proofs.PartialSums.{sum_first, sum-next, overflow-found}
 use Rattle.vectors.proofs.first_overflow.Given as goal
 
 abbrev pub invariant-loop-i : goal.invariant-loop-i

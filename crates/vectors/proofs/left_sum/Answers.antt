@@ -1,11 +1,9 @@
 -- `vectors::left_sum` meets its contract: the sum so far, with the products from i on still to add. Assumes nothing.
 use mathlib.Core.Path.{◌≡◌, sym, ◌∙◌}
-use mathlib.Core.List.{foldl}
-use Prim.Native.Nat.{◌-◌, ◌≤◌}
 use native.Mathlib.Omega.{arith}
-use lib.ListN.{length, drop}
-use Rattle.floats.specs.Arithmetic.{◌⊕◌, ◌⊗◌}
-use Rattle.vectors.specs.Vectors.{products, left_sum}
+use lib.ListN.{length}
+use Rattle.floats.specs.Arithmetic.{◌⊗◌}
+use Rattle.vectors.specs.Vectors.{products}
 use Rattle.vectors.proofs.Elements.{sum-start, sum_step, sum-end, zip_length, zip-at}
 use Rattle.vectors.proofs.left_sum.Goals as goal
 

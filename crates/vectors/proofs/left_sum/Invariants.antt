@@ -1,11 +1,10 @@
-use mathlib.Core.Path.{◌≡◌, sym, ◌∙◌}
+-- The loop of `vectors::left_sum`: the sum so far, with the products from i on still to add.
+use mathlib.Core.Path.{◌≡◌}
 use mathlib.Core.List.{foldl}
 use Prim.Native.Nat.{◌-◌, ◌≤◌}
-use native.Mathlib.Omega.{arith}
 use lib.ListN.{length, drop}
-use Rattle.floats.specs.Arithmetic.{◌⊕◌, ◌⊗◌}
+use Rattle.floats.specs.Arithmetic.{◌⊕◌}
 use Rattle.vectors.specs.Vectors.{products, left_sum}
-use Rattle.vectors.proofs.Elements.{sum-start, sum_step, sum-end, zip_length, zip-at}
 use Rattle.vectors.proofs.left_sum.Given as goal
 
 abbrev pub invariant-loop-i : goal.invariant-loop-i

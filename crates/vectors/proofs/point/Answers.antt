@@ -1,11 +1,12 @@
 -- `vectors::point` meets its contract: each test is a row's or a part of one, in the rows' order, and the buffer is
 -- lent on only behind the last. Assumes nothing.
-use mathlib.Core.Path.{◌≡◌, refl, sym, ◌∙◌}
+use mathlib.Core.Path.{◌≡◌, refl, sym, ap, ◌∙◌}
 use mathlib.Core.Bool.{Bool, true, false, not, ◌&&◌, ◌||◌}
 use Prim.Native.Nat.{ℕ}
-use borrow.Author.Tests.{eq-eqb, ne_eqb}
+use borrow.Author.Tests.{eq-eqb}
 use lib.Dec.{eqb}
 use lib.Ieee.Scale.{finite}
+use Rattle.refusals.specs.Results.{value}
 use Rattle.vectors.specs.Vectors.{bad_length, all_finite, bad_in_any, moved, moved_by}
 use Rattle.vectors.proofs.Elements.{zip_length}
 use Rattle.vectors.proofs.First.{none_found}
@@ -19,24 +20,6 @@ lengths-ok n m k f e g = rw (f, eq-eqb _ _ e, eq-eqb _ _ g)
 whatever-alpha : (alpha x d : Bool) → (x && d) ≡ false → (alpha && x && d) ≡ false
 whatever-alpha true x d e = e
 whatever-alpha false x d e = refl
-
-pub returns-then-bad_length : goal.returns-then-bad_length
-returns-then-bad_length c =
-    let f = sym c.bad_length.ensures ∙ c.if-bad_length.true in
-    (rw f, rw f)
-
-pub returns-then-n-d : goal.returns-then-n-d
-returns-then-n-d c =
-    let f = sym c.bad_length.ensures ∙ c.if-bad_length.false in
-    let g = ne_eqb _ _ c.if-n-d.true in
-    (rw (f, g), rw (f, g))
-
-pub returns-then-n-out : goal.returns-then-n-out
-returns-then-n-out c =
-    let f = sym c.bad_length.ensures ∙ c.if-bad_length.false in
-    let g = eq-eqb _ _ c.if-n-d.false in
-    let h = ne_eqb _ _ c.if-n-out.true in
-    (rw (f, g, h), rw (f, g, h))
 
 pub returns-then-i-n : goal.returns-then-i-n
 returns-then-i-n c =
@@ -75,4 +58,4 @@ returns c =
     let long = zip_length (moved_by s.alpha) s.x0.now s.d.now c.if-n-d.false in
     let m = moved s.x0.now s.alpha s.d.now in
     let h = bad-nowhere m _ long _ c.first_bad_moved-k.ensures c.if-k-n.false in
-    (rw (f, g, k, h, c.write_moved.ensures), rw (f, g, k, h) c.write_moved.ensures)
+    (rw (f, g, k, h) (ap value c.write_moved.ensures), rw (f, g, k, h) c.write_moved.ensures)

@@ -1,11 +1,9 @@
 -- `vectors::write_moved` meets its contract: the first i elements are the point's, and the others are what the buffer
 -- held. Assumes nothing.
-use mathlib.Core.Path.{◌≡◌, refl, ◌∙◌}
-use mathlib.Core.List.{◌++◌}
-use Prim.Native.Nat.{◌-◌, ◌≤◌}
+use mathlib.Core.Path.{◌≡◌, ◌∙◌}
 use native.Mathlib.Numerals.{add-one}
 use native.Mathlib.Omega.{arith}
-use lib.ListN.{length, take, drop, length-set}
+use lib.ListN.{length, length-set}
 use Rattle.vectors.specs.Vectors.{moved, moved_by}
 use Rattle.vectors.proofs.Elements.{zip_length, zip-at, store, stored}
 use Rattle.vectors.proofs.write_moved.Goals as goal
@@ -30,9 +28,3 @@ returns c =
     let m = moved a.x0.now a.alpha a.d.now in
     let n : length m ≡ length a.x0.now = zip_length (moved_by a.alpha) _ _ l.requires.0 in
     l.loop-i.invariant.2 ∙ stored a.out.now m l.loop-i.i (omega arith) (omega arith)
-
-pub loop-i-init : goal.loop-i-init
-loop-i-init c = (omega arith, refl, refl)
-
-pub shape_of-out : goal.shape_of-out
-shape_of-out c = c.loop-i.invariant.1
