@@ -177,6 +177,7 @@ module _ (s : Setup) (fits : Fits s) (c : Curve) where
       → Told-on t (telling c e r)
   turn e m t (end o) w at = end-turn e m t o at
   turn e (suc m) t (ask k x then) (at-ask only more) at = asks-turn e m t k x then at more
+  turn e zero t (ask k x then) held at = elim held [ ]
 
   turn-of : (t : Turn) (l : List Said) → Matches (Pending t) l → Told-on t l
   turn-of t l (at-step {e} {m} {r = r} at) = turn e m t r at.within at
@@ -191,6 +192,7 @@ module _ (s : Setup) (fits : Fits s) (c : Curve) where
   unfolding said_in left_after
   plays zero p l h = record { others = l; split = refl; matches = h }
   plays (suc n) Done [] at-over = record { others = []; split = refl; matches = at-over }
+  plays (suc n) Done (_ ∷ _) h = elim h [ ]
   plays (suc n) (Pending t) l h =
       let z = turn-of t l h in
       let more = plays n (answered_of c t) z.others z.matches in
@@ -202,16 +204,19 @@ module _ (s : Setup) (fits : Fits s) (c : Curve) where
 
   nothing_left : (l : List Said) → Matches Done l → l ≡ []
   nothing_left [] at-over = refl
+  nothing_left (_ ∷ _) held = elim held [ ]
 
   -- it is over after as many turns as there is to tell
   pub over-in-time : (n : ℕ) (p : Played) (l : List Said) → Matches p l → length l ≤ n → left_after n c p ≡ Done
   unfolding left_after
   over-in-time zero Done [] at-over h = refl
+  over-in-time zero Done (_ ∷ _) m h = elim m [ ]
   over-in-time zero (Pending t) l m h =
       let z = turn-of t l m in
       let k : length l ≡ suc (length z.others) = ap length z.first in
       absurd (omega arith)
   over-in-time (suc n) Done [] at-over h = refl
+  over-in-time (suc n) Done (_ ∷ _) m h = elim m [ ]
   over-in-time (suc n) (Pending t) l m h =
       let z = turn-of t l m in
       let k : length l ≡ suc (length z.others) = ap length z.first in

@@ -1,15 +1,17 @@
 -- A play ends: each turn of it leaves less to tell (`less-to-tell`), and leaves a play that ends likewise (`plays-on`).
 -- This is what a loop over a play rests on. Assumes nothing.
 use mathlib.Core.Path.{◌≡◌, refl, sym, ap, ◌∙◌}
-use mathlib.Core.List.{List, []}
+use mathlib.Core.Bool.{cond}
+use mathlib.Core.List.{List, [], ◌∷◌}
 use Prim.Native.Nat.{ℕ, zero, suc, ◌+◌, ◌<◌}
 use native.Mathlib.Omega.{arith}
 use lib.ListN.{length, length-append}
 use Rattle.refusals.specs.Results.{value}
 use Rattle.runs.specs.Asking.{Rest, ask, end, once_told}
 use Rattle.hagerzhang_rules.specs.declared.Setup.{Setup}
-use Rattle.hagerzhang_rules.specs.Rules.{Report}
+use Rattle.hagerzhang_rules.specs.Rules.{Report, answer_finite}
 use Rattle.curves.specs.declared.Curve.{Curve}
+use Rattle.curves.specs.Curves.{value_of, slope_of}
 use Rattle.hagerzhang.specs.declared.state.Turn.{Turn}
 use Rattle.hagerzhang.specs.Meaning.{meant}
 use Rattle.jobs.specs.Opening.{setup_for, begin_of}
@@ -37,7 +39,11 @@ pub record Playable (c : Curve) (p : Played) : Type 0 where
 same_count : (c : Curve) (e d : ℕ) (r : Rest Report) → length (telling c e r) ≡ length (telling c d r)
 unfolding telling
 same_count c e d (end o) = refl
-same_count c e d (ask k x then) = ap suc (same_count c _ _ (then _ _))
+same_count c e d (ask k x then) =
+    let f = value_of c x in
+    let g = slope_of c x in
+    let more = cond (answer_finite f g) 1 0 in
+    ap suc (same_count c (e + more) (d + more) (then f g))
 
 rest-count : (c : Curve) (e : ℕ) (r : Rest Report) → length (telling c 0 (once_told r)) ≡ length (telling c e r)
 rest-count c e (end o) = unfold once_told telling in refl
@@ -47,6 +53,7 @@ counted : (s : Setup) (fits : Fits s) (c : Curve) (p : Played) (l : List Said) �
     → to_tell c p ≡ length l
 unfolding to_tell
 counted s fits c Done [] at-over = refl
+counted s fits c Done (_ ∷ _) held = elim held [ ]
 counted s fits c (Pending t) l (at-step {e} {r = r} at) =
     ap (λ (q : Rest Report). length (telling c 0 q)) at.leaves ∙ rest-count c e r
 

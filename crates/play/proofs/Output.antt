@@ -4,7 +4,8 @@
 -- nothing.
 use mathlib.Core.Path.{◌≡◌, refl, sym, ap, ◌∙◌, subst}
 use mathlib.Core.List.{List}
-use Prim.Native.Nat.{ℕ, suc, ◌+◌, ◌*◌, ◌≤◌, suc-le-suc}
+use mathlib.Core.Bool.{cond}
+use Prim.Native.Nat.{ℕ, zero, suc, ◌+◌, ◌*◌, ◌≤◌, suc-le-suc}
 use native.Mathlib.Omega.{arith}
 use lib.ListN.{length}
 use lib.Ieee.{Float}
@@ -17,6 +18,7 @@ use Rattle.hagerzhang_rules.specs.declared.Options.{Options}
 use Rattle.hagerzhang_rules.specs.declared.Setup.{Setup}
 use Rattle.hagerzhang_rules.specs.Parameters.{setup_of}
 use Rattle.hagerzhang_rules.specs.Rules.{answer_finite, Report, hager_zhang}
+use Rattle.curves.specs.Curves.{value_of, slope_of}
 use Rattle.hagerzhang_rules.specs.Iterations.{most_in_start, most_in_iteration, most_ever}
 use Rattle.hagerzhang_rules.proofs.Ranges.{Accepted, ever, level-finite, limit-fits, most-answers}
 use Rattle.hagerzhang_rules.proofs.EndsInTime.{search-within}
@@ -71,7 +73,11 @@ module _ (o : Options) (f0 s0 : Float) (ok : Accepted o f0 s0) where
 tells-few : (c : Curve) (e m : ℕ) (r : Rest Report) → EndsWithin answer_finite m r → length (telling c e r) ≤ suc m
 unfolding telling
 tells-few c e m (end o) at-end = omega arith
-tells-few c e (suc m) (ask k x then) (at-ask only more) = suc-le-suc (tells-few c _ m _ (more _ _))
+tells-few c e (suc m) (ask k x then) (at-ask only more) =
+    let f = value_of c x in
+    let g = slope_of c x in
+    suc-le-suc (tells-few c (e + cond (answer_finite f g) 1 0) m (then f g) (more f g))
+tells-few c e zero (ask k x then) held = elim held [ ]
 
 -- ---- a job that begins
 module _ (bytes : List ℕ) (c : Curve) (t : Turn) (b : Begins bytes c t) where

@@ -12,7 +12,7 @@ returns-in-Ask c =
       c.in-Ask.is,
       ← c.slope.ensures,
       ← c.value.ensures,
-    ) (ap Pending c.answer.ensures.0)
+    ) (ap Pending c.answer.ensures.exact)
 
 pub returns-in-Stop : goal.returns-in-Stop
 unfolding answered_by

@@ -17,7 +17,5 @@ finished s k i e e' = ap (λ (n : Iterations). n.0) e' ∙ ap (λ (q : Kept). it
 
 pub returns : goal.returns
 returns c =
-    let n = c.before in
-    let s = n.args.t.search in
-    let e = finished s _ _ n.held-kept.ensures.0 n.iterations.ensures in
+    let e = finished c.args.t.search _ _ c.held-kept.ensures.exact c.iterations.ensures in
     rw (← e) c.outcome.ensures

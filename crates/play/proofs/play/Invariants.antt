@@ -13,4 +13,3 @@ invariant-loop-left l =
 
 abbrev pub decreases-loop-left : goal.decreases-loop-left
 decreases-loop-left l = l.left
--- LOOPS [[['loop', 'loop-left'], ['c', 'turns', 'out', 'at', 'played', 'next', 'left']]]
