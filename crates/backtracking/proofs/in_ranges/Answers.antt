@@ -1,5 +1,4 @@
 -- `backtracking::in_ranges` meets its contract. Assumes nothing.
-use borrow.Author.Rules.{rules}
 use Rattle.backtracking.proofs.in_ranges.Goals as goal
 
 pub returns : goal.returns

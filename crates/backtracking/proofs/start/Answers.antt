@@ -1,29 +1,35 @@
 -- `backtracking::start` meets its contract: 2, then 3. Assumes nothing.
-use mathlib.Core.Path.{◌≡◌}
-use mathlib.Core.Bool.{true}
-use Rattle.floats.proofs.Branches.{not-by-call, not-not-by-call}
-use Rattle.backtracking.specs.Backtracking.{supplied_finite}
-use Rattle.backtracking.proofs.Bridge.{start-promised}
-use Rattle.backtracking.proofs.start.Goals.{Else-not-supplied_finite}
+use Rattle.floats.proofs.Branches.{by_call}
+use Rattle.refusals.specs.declared.Refusal.TheVariants.{SuppliedNotFinite, OutOfRange}
+use Rattle.backtracking.specs.declared.Started.TheVariants.{Began, NoSearch}
+use Rattle.backtracking.specs.Machine.{StartSaid}
+use Rattle.backtracking.proofs.Bridge.{starts}
 use Rattle.backtracking.proofs.start.Goals as goal
 
--- behind the first test
-all-finite : (c : Else-not-supplied_finite) → let a = c.args in supplied_finite a.o a.f0 a.s0 ≡ true
-all-finite c = not-not-by-call _ _ c.supplied_finite.ensures c.if-not-supplied_finite.false-raw
-
 pub returns-then-not-supplied_finite : goal.returns-then-not-supplied_finite
-returns-then-not-supplied_finite c = start-promised _ _ _ _ (rw (not-by-call _ _ c.supplied_finite.ensures c.if-not-supplied_finite.true-raw))
+returns-then-not-supplied_finite c =
+    let a = c.args in
+    let said : StartSaid a.o a.f0 a.s0 (NoSearch SuppliedNotFinite) =
+    rw (by_call _ _ _ c.supplied_finite.ensures c.if-not-supplied_finite.true) in
+    record { exact = said; rules = starts a.o a.f0 a.s0 _ said }
 
 pub returns-then-not-in_ranges : goal.returns-then-not-in_ranges
 returns-then-not-in_ranges c =
-    start-promised _ _ _ _
-    (rw (all-finite c.before, not-by-call _ _ c.in_ranges.ensures c.if-not-in_ranges.true-raw))
+    let a = c.args in
+    let said : StartSaid a.o a.f0 a.s0 (NoSearch OutOfRange) =
+    rw (
+      by_call _ _ _ c.supplied_finite.ensures c.if-not-supplied_finite.false,
+      by_call _ _ _ c.in_ranges.ensures c.if-not-in_ranges.true,
+    ) in
+    record { exact = said; rules = starts a.o a.f0 a.s0 _ said }
 
 pub returns : goal.returns
 returns c =
-    start-promised _ _ _ _
-    (rw (
-      all-finite c.before,
-      not-not-by-call _ _ c.in_ranges.ensures c.if-not-in_ranges.false-raw,
+    let a = c.args in
+    let said : StartSaid a.o a.f0 a.s0 (Began c.fresh.result) =
+    rw (
+      by_call _ _ _ c.supplied_finite.ensures c.if-not-supplied_finite.false,
+      by_call _ _ _ c.in_ranges.ensures c.if-not-in_ranges.false,
       c.fresh.ensures,
-    ))
+    ) in
+    record { exact = said; rules = starts a.o a.f0 a.s0 _ said }

@@ -1,5 +1,4 @@
 -- `backtracking::supplied_finite` meets its contract. Assumes nothing.
-use borrow.Author.Rules.{rules}
 use Rattle.backtracking.proofs.supplied_finite.Goals as goal
 
 pub returns : goal.returns
