@@ -100,15 +100,15 @@ module _ (n : ℕ) (xs : List Float) (i : ℕ) (d : Float) where
 -- ---- the answer at i, where all are named
 module _ (n : ℕ) (xs : List Float) (i : ℕ) (d : Float) (h : i + 2 < length xs)
     (e : all_named n (answers_in (drop i xs)) ≡ true) where
-  all_named : (ltb (search_number (get_or xs i d)) n && all_named n (answers_in (drop (i + 3) xs))) ≡ true
+  one-named : (ltb (search_number (get_or xs i d)) n && all_named n (answers_in (drop (i + 3) xs))) ≡ true
   unfolding all_named
-  all_named = rw (answer_at xs i d h) at e
+  one-named = rw (answer_at xs i d h) at e
 
   pub named_here : search_number (get_or xs i d) < n
-  named_here = ltb-true _ _ (and_first _ (all_named n (answers_in (drop (i + 3) xs))) all_named)
+  named_here = ltb-true _ _ (and_first _ (all_named n (answers_in (drop (i + 3) xs))) one-named)
 
   pub named-later : all_named n (answers_in (drop (i + 3) xs)) ≡ true
-  named-later = and_second (ltb (search_number (get_or xs i d)) n) _ all_named
+  named-later = and_second (ltb (search_number (get_or xs i d)) n) _ one-named
 
 -- ---- the answer at i is given, in place
 module _ {S : Type 0} (m : Machine S) where

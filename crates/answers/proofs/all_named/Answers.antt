@@ -12,24 +12,21 @@ loop-i-init c = (omega arith, refl)
 -- the answer at i names none
 pub returns-then-n-number : goal.returns-then-n-number
 returns-then-n-number c =
-    let l = c.before in
-    let a = l.args in
+    let a = c.args in
     let n = c.number.ensures in
     let t = c.if-n-number.true in
-    sym (l.loop-i.invariant.1 ∙ unnamed a.n a.list.now l.loop-i.i nan (omega arith) (omega arith))
+    sym (c.loop-i.invariant.1 ∙ unnamed a.n a.list.now c.loop-i.i nan (omega arith) (omega arith))
 
 pub loop-i-preserved : goal.loop-i-preserved
 loop-i-preserved c =
-    let l = c.before in
-    let a = l.args in
+    let a = c.args in
     let n = c.number.ensures in
     let t = c.if-n-number.false in (
       omega arith,
-      l.loop-i.invariant.1 ∙ named_step a.n a.list.now l.loop-i.i nan (omega arith) (omega arith),
+      c.loop-i.invariant.1 ∙ named_step a.n a.list.now c.loop-i.i nan (omega arith) (omega arith),
     )
 
 pub returns : goal.returns
 returns c =
-    let l = c.before in
-    let a = l.args in
-    sym (l.loop-i.invariant.1 ∙ all_seen a.n a.list.now l.loop-i.i nan (omega arith))
+    let a = c.args in
+    sym (c.loop-i.invariant.1 ∙ all_seen a.n a.list.now c.loop-i.i nan (omega arith))

@@ -6,31 +6,29 @@ use Rattle.answers.proofs.number.Goals as goal
 
 pub truncating_f64_to_u64-n-requires : goal.truncating_f64_to_u64-n-requires
 unfolding of_bits neg
-truncating_f64_to_u64-n-requires c κs = (subst T (sym c.if-x.true) tt, subst T (sym c.if2.true) tt)
+truncating_f64_to_u64-n-requires c = record {
+  lower_bound = subst T (sym c.if-x.true) tt;
+  upper_bound = subst T (sym c.if-x-2.true) tt;
+}
 
 pub returns-then-x-k : goal.returns-then-x-k
 returns-then-x-k c =
-    let t = c.before in
-    let a = t.before in
-    let k = t.truncating_f64_to_u64-n.ensures in
-    sym (number_is a.args.x _ a.well_formed.0.1 (omega arith) c.if-x-k.true)
+    let k = c.truncating_f64_to_u64-n.ensures in
+    sym (number_is c.args.x _ c.well_formed.0.1 (omega arith) c.if-x-k.true)
 
 pub returns-else-x-k : goal.returns-else-x-k
 returns-else-x-k c =
-    let t = c.before in
-    let a = t.before in
-    let k = t.truncating_f64_to_u64-n.ensures in
-    sym (none-unequal a.args.x a.well_formed.0.1 (rw (sym k) c.if-x-k.false))
+    let k = c.truncating_f64_to_u64-n.ensures in
+    sym (none-unequal c.args.x c.well_formed.0.1 (rw (sym k) c.if-x-k.false))
 
 pub returns-else-n-lt32 : goal.returns-else-n-lt32
 returns-else-n-lt32 c =
-    let a = c.before in
     let k = c.truncating_f64_to_u64-n.ensures in
-    sym (none-large a.args.x a.well_formed.0.1 (omega arith))
+    sym (none-large c.args.x c.well_formed.0.1 (omega arith))
 
 pub returns-else-x-2 : goal.returns-else-x-2
 unfolding of_bits neg
-returns-else-x-2 c = sym (none_above _ c.if2.false)
+returns-else-x-2 c = sym (none_above _ c.if-x-2.false)
 
 pub returns-else-x : goal.returns-else-x
 unfolding of_bits neg
