@@ -14,48 +14,34 @@ use Rattle.tables.proofs.InPlace.{given-step, given-end, unmapped}
 use Rattle.tables.proofs.given.Goals as goal
 
 pub loop-i-init : goal.loop-i-init
-loop-i-init c = (omega arith, omega arith, c.requires.1, search (rules, unmapped), refl)
+loop-i-init c = (omega arith, omega arith, c.requires.list_value, search (rules, unmapped), refl)
 
 pub bounds-next-n : goal.bounds-next-n
 bounds-next-n c =
-    let l = c.before in
-    let a = l.args in
     let k = c.number-n.ensures in
-    let n = named_here 32 a.list.now l.loop-i.i nan (omega arith) l.loop-i.invariant.2 in
+    let named = named_here 32 c.args.list.now c.loop-i.i nan (omega arith) c.loop-i.invariant.2 in
     omega arith
 
 pub bounds-next-n-in-loop-i : goal.bounds-next-n-in-loop-i
-bounds-next-n-in-loop-i c = bounds-next-n c.before
+bounds-next-n-in-loop-i c =
+    let k = c.number-n.ensures in
+    let named = named_here 32 c.args.list.now c.loop-i.i nan (omega arith) c.loop-i.invariant.2 in
+    omega arith
 
 pub loop-i-preserved : goal.loop-i-preserved
 loop-i-preserved c =
-    let l = c.before in
-    let a = l.args in
-    let k = c.number-n.ensures in (
+    let xs = c.args.list.now in
+    let l = c.loop-i in
+    let k = c.number-n.ensures in
+    let named = named_here 32 xs l.i nan (omega arith) l.invariant.2 in
+    (
       omega arith,
       omega arith,
-      named-later 32 a.list.now l.loop-i.i nan (omega arith) l.loop-i.invariant.2,
-      length-set l.loop-i.next.seats _ _ ∙ l.loop-i.invariant.3,
-      l.loop-i.invariant.4
-          ∙ given-step l.loop-i.next a.list.now l.loop-i.i _ _ _ (omega arith) k
-          (rw l.loop-i.invariant.3 (bounds-next-n c.before))
-          c.answered-now.ensures,
+      named-later 32 xs l.i nan (omega arith) l.invariant.2,
+      length-set l.next.seats _ _ ∙ l.invariant.3,
+      l.invariant.4
+          ∙ given-step l.next xs l.i _ _ _ (omega arith) k (rw l.invariant.3 (omega arith)) c.answered-now.ensures,
     )
 
 pub returns : goal.returns
-returns c =
-    let l = c.before in
-    sym (l.loop-i.invariant.4 ∙ given-end l.loop-i.next _ l.loop-i.i (omega arith))
-
--- TODO
--- mul-was : tie.Need-overflow-mul-was invariant-loop decreases-loop
--- mul-was c =
---     let l = c.before.before.before.before.before in
---     let a = l.before.before.args in
---     let k = c.before.before.number.ensures in
---     let n = named_here 32 a.list.now l.loop.i nan (omega arith) l.loop.invariant.2 in
---     omega arith
-
--- TODO
--- mul-now : tie.Need-overflow-mul-now invariant-loop decreases-loop
--- mul-now c = mul-was c.before.before
+returns c = sym (c.loop-i.invariant.4 ∙ given-end c.loop-i.next _ c.loop-i.i (omega arith))

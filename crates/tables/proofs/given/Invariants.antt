@@ -21,4 +21,3 @@ invariant-loop-i l =
 
 abbrev pub decreases-loop-i : goal.decreases-loop-i
 decreases-loop-i l = length l.list - l.i
--- LOOPS [[['loop', 'loop-i'], ['list', 'next', 'i']]]

@@ -4,20 +4,12 @@ use Rattle.tables.proofs.Scans.{may-be-given, scanned, untouched}
 use Rattle.tables.proofs.scan.Goals as goal
 
 pub given-requires : goal.given-requires
-given-requires c κs =
-    let k = c.before in
-    let a = k.args in
-    may-be-given a.t a.list.now _ k.check-checked.ensures c.in-Sound.is
+given-requires c =
+    let may = may-be-given c.args.t c.args.list.now _ c.check-checked.ensures c.in-Sound.is in
+    record { list_len = may.0; list_value = may.1 }
 
 pub returns-in-Sound : goal.returns-in-Sound
-returns-in-Sound c =
-    let k = c.before in
-    let a = k.args in
-    scanned a.t a.list.now _ k.check-checked.ensures
-    c.in-Sound.is _ c.given.ensures
+returns-in-Sound c = scanned c.args.t c.args.list.now _ c.check-checked.ensures c.in-Sound.is _ c.given.ensures
 
 pub returns-in-Refused : goal.returns-in-Refused
-returns-in-Refused c =
-    let k = c.before in
-    let a = k.args in
-    untouched a.t a.list.now _ k.check-checked.ensures _ c.in-Refused.is
+returns-in-Refused c = untouched c.args.t c.args.list.now _ c.check-checked.ensures _ c.in-Refused.is
