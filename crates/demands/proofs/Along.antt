@@ -126,8 +126,9 @@ module _ (o : Options) (f0 s0 : Float) (ok : Accepted o f0 s0) where
   unfolding finished_by finished-by
   finished-is c r w [] = refl
   finished-is c r w (y ∷ ys) =
+      let c' = next c y.0 y.1 in
       let w' = machines.goes tied c r w y.0 y.1 in
-      ap₂ (λ (k l : ℕ). k + l) (rw (holds c r w, holds _ _ w')) (finished-is _ _ w' ys)
+      ap₂ (λ (k l : ℕ). k + l) (rw (holds c r w, holds c' _ w')) (finished-is c' _ w' ys)
 
   pub finished-at : (ys : List Reply) → finished_by b ys ≡ finished-by (hager_zhang s) ys
   finished-at ys = finished-is b (hager_zhang s) (begins tied) ys

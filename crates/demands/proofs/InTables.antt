@@ -214,16 +214,17 @@ module _ {S : Type 0} (kind : Machine S) (held : S → Held) where
     tells = at.tells;
   }
 
-  pub goes_on : Kind kind held → (s : S) (o : Told) (ys zs : List Reply) (os ps : List Told) (t u : Table) (i : ℕ)
+  pub goes_on : Kind kind held → (s : S) (o : Told) (ys : List Reply) (os : List Told) (t : Table) (i : ℕ)
+      (zs : List Reply) (ps : List Told) (u : Table)
       → Since i t zs ps u → Sits kind held s o ys os t i → Sits kind held s o (ys ++ zs) (os ++ ps) u i
-  goes_on is s o ys zs os ps t u i at_once at =
+  goes_on is s o ys os t i zs ps u at_once at =
       subst (λ l. Sits kind held s o l (os ++ []) t i) (sym (append-nothing ys))
       (subst (λ l. Sits kind held s o ys l t i) (sym (append-nothing os)) at)
-  goes_on is s o ys zs os ps t u i (a-list {ys = ws} {os = qs} {u = v} xs since e) at =
+  goes_on is s o ys os t i zs ps u (a-list {ys = ws} {os = qs} {u = v} xs since e) at =
       subst (λ l. Sits kind held s o l (os ++ (qs ++ under i (outcomes_in v xs))) u i)
       (append-thrice ys ws (own_answers i xs))
       (subst (λ l. Sits kind held s o ((ys ++ ws) ++ own_answers i xs) l u i)
       (append-thrice os qs (under i (outcomes_in v xs)))
-      (by-list kind held is s o (ys ++ ws) (os ++ qs) v u i xs e (goes_on is s o ys ws os qs t v i since at)))
-  goes_on is s o ys zs os ps t u i (a-search {u = v} z since) at =
-      stays-seated s o (ys ++ zs) (os ++ ps) v i z (goes_on is s o ys zs os ps t v i since at)
+      (by-list kind held is s o (ys ++ ws) (os ++ qs) v u i xs e (goes_on is s o ys os t i ws qs v since at)))
+  goes_on is s o ys os t i zs ps u (a-search {u = v} z since) at =
+      stays-seated s o (ys ++ zs) (os ++ ps) v i z (goes_on is s o ys os t i zs ps v since at)
