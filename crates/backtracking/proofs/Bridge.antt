@@ -96,8 +96,8 @@ follows s h f g r e =
 
 -- what `answer` promises of its result
 pub promised : (s : Backtracking) → s.setup.options.limit < 4294967296 → (f g : Float) (r : Turn)
-    → AnswerSaid s f g r → AnswerSaid s f g r × Follows s f g r
-promised s h f g r e = (e, follows s h f g r e)
+    → AnswerSaid s f g r → record { exact : AnswerSaid s f g r; rules : Follows s f g r }
+promised s h f g r e = record { exact = e; rules = follows s h f g r e }
 
 -- ---- `start`
 
@@ -133,5 +133,6 @@ module _ (o : Options) (f0 s0 : Float) where
   starts (NoSearch k) e = record { stands-for = ap stands e ∙ start-stands; tells_first = ap says e ∙ start-says }
 
   -- what `start` promises of its result
-  pub start-promised : (r : Started) → StartSaid o f0 s0 r → StartSaid o f0 s0 r × Starts o f0 s0 r
-  start-promised r e = (e, starts r e)
+  pub start-promised : (r : Started) → StartSaid o f0 s0 r
+      → record { exact : StartSaid o f0 s0 r; rules : Starts o f0 s0 r }
+  start-promised r e = record { exact = e; rules = starts r e }
