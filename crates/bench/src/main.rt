@@ -8,6 +8,8 @@ use curves::{Curve, Known};
 use hagerzhang::{Kept, Search, Stage, Started};
 use hagerzhang_rules::{Bounds, Options, Params, Setup, Way};
 use runs::{Evaluations, Outcome};
+use std::io::Write;
+use std::rt::Env;
 
 // The sum of the steps, and how many answers are left to give.
 #[derive(Clone, Copy)]
@@ -122,15 +124,16 @@ fn run(turns: u64) -> f64 {
     t.sum
 }
 
-fn main() {
+// An argument that is not empty and has at most four bytes asks for the long run.
+fn main(rt: HostRuntime) {
     let mut arg = [0u8; 4];
-    let turns = if os::arg(1, &mut arg) == 0 {
-        1000
-    } else {
-        50000000
+    let turns = match rt.arg(1, &mut arg) {
+        Ok(1..) => 50000000,
+        _ => 1000,
     };
-    let mut digits = [0u8; 16];
-    let n = io::hex(numbers::bits_of(run(turns)), 16, &mut digits);
-    let sent = streams::send(streams::nothing_sent(), &digits[..n], n);
-    streams::send(sent, b"\n", 1);
+    let bits = numbers::bits_of(run(turns));
+    let mut line = [0u8; 17];
+    let mut room = &mut line[..];
+    let _ = writeln!(room, "{bits:016x}");
+    streams::send(&rt, streams::nothing_sent(), &line, 17);
 }

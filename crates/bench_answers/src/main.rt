@@ -9,6 +9,8 @@ use hagerzhang::Started;
 use hagerzhang_rules::{Bounds, Options, Params, Way};
 use runs::Outcome;
 use seats::Seat;
+use std::io::Write;
+use std::rt::Env;
 use tables::Table;
 
 fn chosen() -> Options {
@@ -114,15 +116,16 @@ fn run(scans: u64) -> f64 {
     sum
 }
 
-fn main() {
+// An argument that is not empty and has at most four bytes asks for the long run.
+fn main(rt: HostRuntime) {
     let mut arg = [0u8; 4];
-    let scans = if os::arg(1, &mut arg) == 0 {
-        1000
-    } else {
-        1000000
+    let scans = match rt.arg(1, &mut arg) {
+        Ok(1..) => 1000000,
+        _ => 1000,
     };
-    let mut digits = [0u8; 16];
-    let n = io::hex(numbers::bits_of(run(scans)), 16, &mut digits);
-    let sent = streams::send(streams::nothing_sent(), &digits[..n], n);
-    streams::send(sent, b"\n", 1);
+    let bits = numbers::bits_of(run(scans));
+    let mut line = [0u8; 17];
+    let mut room = &mut line[..];
+    let _ = writeln!(room, "{bits:016x}");
+    streams::send(&rt, streams::nothing_sent(), &line, 17);
 }

@@ -2,6 +2,7 @@
 
 ghost use Rattle.std.specs.Prelude.{◌≡◌, ◌≤◌, ◌<◌, length};
 
+use std::io::Read;
 use streams::Received;
 
 // The part in memory: the buffer begins with byte `base` of the input, and holds it up to `to`. What is before `from`
@@ -63,13 +64,13 @@ fn moved(buf: &mut [u8], from: usize, to: usize) -> usize
 }
 
 // What is not served, moved to the front, and what one read gives behind it.
-pub(crate) fn refilled(buf: &mut [u8], w: Window) -> Window
+pub(crate) fn refilled(rt: &impl Eprint, input: &mut impl Read, buf: &mut [u8], w: Window) -> Window
     requires { (w.from ≤ w.to) × (w.to ≤ length buf.old) }
     ensures { (result.from ≤ result.to) × (result.to ≤ length buf.new) }
 {
     let base = place(w.base, w.from);
     let left = moved(buf, w.from, w.to);
-    match streams::receive(&mut buf[left..], place(base, left)) {
+    match streams::receive(rt, input, &mut buf[left..], place(base, left)) {
         Received::Bytes(n) => Window {
             base,
             from: 0,

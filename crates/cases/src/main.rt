@@ -11,6 +11,7 @@ ghost use Rattle.case_files.specs.CaseFiles.{Short};
 
 use case_files::Field;
 use searches::{Current, Told};
+use std::io::Read;
 
 // ---- a field
 
@@ -100,7 +101,7 @@ fn served(out: &mut [u8], s: &[u8], progress: Progress, b: u64) -> Progress {
 // that is told, so that whoever asks over a pipe gets the answer. Each field finds room for its lines. Where a
 // write or a read failed nothing more is told: no case is closed, since none has ended. A proved loop has to end, and
 // nothing says that an input does: it counts its turns down.
-fn run(buf: &mut [u8], out: &mut [u8]) {
+fn run(rt: &(impl Print + Eprint), stdin: &mut impl Read, buf: &mut [u8], out: &mut [u8]) {
     let mut progress = free(0, 0, false);
     let mut sent = streams::nothing_sent();
     let mut window = input::opened();
@@ -114,14 +115,14 @@ fn run(buf: &mut [u8], out: &mut [u8]) {
         let to = window.to;
         let waits = !window.ended & !input::is_decided(&buf[from..to]);
         if waits | (50000 <= progress.at) {
-            sent = streams::send(sent, out, progress.at);
+            sent = streams::send(rt, sent, out, progress.at);
             progress.at = 0;
             if sent.lost {
                 return;
             }
         }
         if waits {
-            window = input::refilled(buf, window);
+            window = input::refilled(rt, stdin, buf, window);
             if window.lost {
                 return;
             }
@@ -140,11 +141,11 @@ fn run(buf: &mut [u8], out: &mut [u8]) {
     }
     let current = progress.current;
     let at = searches::closed(out, progress.at, current);
-    streams::send(sent, out, at);
+    streams::send(rt, sent, out, at);
 }
 
-fn main() {
-    let mut buf = io::large_buffer();
-    let mut out = io::large_buffer();
-    run(&mut buf, &mut out);
+fn main(rt: HostRuntime) {
+    let mut buf = [0u8; 65536];
+    let mut out = [0u8; 65536];
+    run(&rt, &mut rt.stdin(), &mut buf, &mut out);
 }

@@ -55,9 +55,9 @@ fn backtracks(out: &mut [u8], at: usize) -> usize {
     text::number_line(out, b, b"backtracking N ", o.limit as u64)
 }
 
-fn main() {
-    let mut page = io::buffer();
+fn main(rt: HostRuntime) {
+    let mut page = [0u8; 4096];
     let p = hager_zhang(&mut page, 0);
     let n = backtracks(&mut page, p);
-    streams::send(streams::nothing_sent(), &page, n);
+    streams::send(&rt, streams::nothing_sent(), &page, n);
 }

@@ -49,24 +49,24 @@ fn options() -> Options {
 
 // The line of what the search says, with its evaluations and finished iterations. `sent` goes from line to line: behind
 // a write that failed nothing more is written.
-fn print_turn(t: Turn, sent: Sent) -> Sent {
+fn print_turn(rt: &(impl Print + Eprint), t: Turn, sent: Sent) -> Sent {
     let s = t.search;
     let outcome = t.outcome;
     let kept = hagerzhang::held(s);
     let mut line = [0u8; 80];
     let n = lines::outcome(&mut line, 0, outcome, s.evaluations, kept.iterations());
-    streams::send(sent, &line, n)
+    streams::send(rt, sent, &line, n)
 }
 
 // The model answers each step that is asked, until the search ends. It ends by itself; a loop has to say so too, and
 // counts its turns down.
-fn answer_all(p: Plant, first: Turn, before: Sent) -> Sent {
+fn answer_all(rt: &(impl Print + Eprint), p: Plant, first: Turn, before: Sent) -> Sent {
     let mut t = first;
     let mut sent = before;
     let mut turns: u32 = 4294967295;
     while 0 < turns {
         turns -= 1;
-        sent = print_turn(t, sent);
+        sent = print_turn(rt, t, sent);
         let s = t.search;
         let outcome = t.outcome;
         let Outcome::Ask(x) = outcome else {
@@ -78,18 +78,18 @@ fn answer_all(p: Plant, first: Turn, before: Sent) -> Sent {
 }
 
 // A start may be refused too: then there is no search, and the number says why.
-fn optimise(p: Plant, sent: Sent) -> Sent {
+fn optimise(rt: &(impl Print + Eprint), p: Plant, sent: Sent) -> Sent {
     match hagerzhang::start(options(), power(p, 0.0), slope(p, 0.0)) {
-        Started::Began(first) => answer_all(p, first, sent),
+        Started::Began(first) => answer_all(rt, p, first, sent),
         Started::NoSearch(refusal) => {
             let mut line = [0u8; 80];
             let n = lines::refused(&mut line, 0, refusal.number());
-            streams::send(sent, &line, n)
+            streams::send(rt, sent, &line, n)
         }
     }
 }
 
-fn main() {
+fn main(rt: HostRuntime) {
     let sound = Plant {
         chiller: 2.0,
         pump: 1.0,
@@ -100,6 +100,6 @@ fn main() {
         pump: 1.0,
         dead_above: 0.75,
     };
-    let sent = optimise(sound, streams::nothing_sent());
-    optimise(dead, sent);
+    let sent = optimise(&rt, sound, streams::nothing_sent());
+    optimise(&rt, dead, sent);
 }
