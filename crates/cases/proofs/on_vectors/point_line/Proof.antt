@@ -1,0 +1,16 @@
+-- `cases::on_vectors::point_line` meets its contract. Assumes nothing.
+use borrow.Author.Rules.{rules}
+use mathlib.Core.Path.{sym}
+use native.Mathlib.Omega.{arith}
+use lib.Seq.{length-take-le}
+use Rattle.cases.proofs.on_vectors.point_line.Statement.{statement}
+use Rattle.cases.proofs.on_vectors.point_line.Tie as tie
+
+pub point-line-spec : {M : Type 1} → statement M
+point-line-spec =
+    tie.close
+    (tie.spec
+    (λ c. sym (length-take-le _ _ (omega arith))) (λ c. sym (length-take-le _ _ (omega arith)))
+    (λ c. search rules) (λ c. sym (length-take-le _ _ (omega arith))) (λ c κs. search rules) (λ c. search rules)
+    (λ c. search rules) (λ c κs. search rules) (λ c. search rules) (λ c κs. search rules) (λ c. search rules)
+    (λ c. search rules) (λ c. search rules) (λ c. search rules) (λ c. search rules) (λ c. search rules))

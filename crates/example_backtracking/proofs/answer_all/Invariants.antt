@@ -1,9 +1,0 @@
-use borrow.Author.Rules.{rules}
-use Rattle.example_backtracking.proofs.answer_all.Given as goal
-
-abbrev pub invariant-loop-turns : goal.invariant-loop-turns
-invariant-loop-turns l = Unit {0}
-
-abbrev pub decreases-loop-turns : goal.decreases-loop-turns
-decreases-loop-turns l = l.turns
--- LOOPS [[['loop', 'loop-turns'], ['rt', 't', 'sent', 'turns']]]

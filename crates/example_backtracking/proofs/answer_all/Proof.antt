@@ -1,0 +1,17 @@
+-- `example_backtracking::answer_all` meets its contract: the turns that are left go down. Assumes nothing.
+use borrow.Author.Rules.{rules}
+use Rattle.example_backtracking.proofs.answer_all.Statement.{statement}
+use Rattle.example_backtracking.proofs.answer_all.Tie as tie
+
+abbrev invariant-loop : tie.invariant-loop
+invariant-loop t₀ sent₀ turns₀ t sent turns = Unit {0}
+
+abbrev decreases-loop : tie.decreases-loop
+decreases-loop t₀ sent₀ turns₀ t sent turns = turns
+
+pub answer-all-spec : {M : Type 1} → statement M
+answer-all-spec =
+    tie.close
+    (tie.spec invariant-loop decreases-loop
+    (λ c. search rules) (λ c. search rules) (λ c κs. tt) (λ c. search rules) (λ c. search rules) (λ c κs. tt)
+    (λ c κs. tt) (λ c κs. tt) (λ c. search rules) (λ c. search rules) (λ c. search rules))
