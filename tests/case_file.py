@@ -1,9 +1,8 @@
 """Writes the fields of a case file, and cases whose answers come from a reply to each step."""
 import struct
 
+from model_cases import ANSWER, BACKTRACKING, DOT, GROWING, HAGER_ZHANG, POINT, THREE_ANSWERS, WHOLE, search_of
 from exact import F
-from model_cases import (ANSWER, BACKTRACKING, DOT, GROWING, HAGER_ZHANG, POINT, SCAN, TABLE, THREE_ANSWERS, WHOLE,
-                         search_of)
 from model_hagerzhang import DEFAULTS, NAMES
 
 ANSWER_SIZE = 19
@@ -55,16 +54,6 @@ def dot(a, b):
 
 def point(x0, alpha, d, k):
     return field(POINT, struct.pack(">HHH", len(x0), len(d), k) + words(alpha, *x0, *d))
-
-
-def table(*starts):
-    return field(TABLE, bytes([len(starts)])) + b"".join(starts)
-
-
-def scan(*answers):
-    """A list of answers. Each is the number of a search, as a float, a cost and a slope; or what stands in its
-    place."""
-    return field(SCAN, words(*(w for given in answers for w in given)))
 
 
 def refused_by_01(s):

@@ -25,10 +25,9 @@ import tempfile
 import time
 
 import lists_growing
-import lists_tables
 import make_cases
 import make_jobs
-from case_file import answer, dot, field, hager_zhang, params, played, point, scan, table, words
+from case_file import answer, dot, field, hager_zhang, params, played, point, words
 from exact import NAN, F, Random
 from lists_backtracking import FINE, start
 from lists_hagerzhang import endings
@@ -47,7 +46,7 @@ OUTCOME = "ASK {n}|STOP (?:wolfe|approximate|met) {n} {c}|LIMIT {n} {c}|REFUSED 
 CASE_LINE = "|".join((
     "CASE [1-9][0-9]*", "{o}", "BRACKET (?:none|{n}(?: {n}){{5}})", "BEST (?:none|{n} {n} {n})", "COUNTS {c}",
     "REFUSED 1[01]", "VALUE {n}", "POINT", "REFUSED [24] at [0-9]{{1,3}}", "OUT(?: {n}){{0,511}}",
-    "SCAN", "SEARCH [0-9]{{1,2}}", "MALFORMED at [0-9]+",
+    "MALFORMED at [0-9]+",
 )).format(o=OUTCOME, n=NUMBER, c=COUNTS)
 
 
@@ -67,18 +66,9 @@ def relying():
     return [make_jobs.job(2, **c) for c in chosen] + jobs()[:3]
 
 
-def small_table():
-    """A table with a search by each field and a refused start; lists that are taken, empty, and refused by 1 and 3."""
-    to, met, down = lists_tables.to, lists_tables.MET, lists_growing.DOWN
-    starts = [start(FINE[2], 4), lists_tables.three(), start(FINE[0], 0), lists_growing.grows()]
-    return lists_tables.tabled(starts, [to(1, down), to(0, met), to(2, down), to(1, down)], [], [to(0, met), [F(1)]],
-                               [to(2, down), to(3, met)], [to(0, met), to(2, (NAN, F(0)))])
-
-
 def cases():
     """A few short cases with every kind of field and line. Of the growing searches one stops, one runs U3 and is
-    refused behind it, and one is refused by 11; a damaged s0 brings 10. A table stands between searches and at the
-    end."""
+    refused behind it, and one is refused by 11; a damaged s0 brings 10."""
     grown = lists_growing.endings()
     return [
         endings()[0],
@@ -89,9 +79,7 @@ def cases():
         point([F(1)], F(2), [F(3)], 1),
         point([], F(2), [F(3)], 2),
         lists_growing.as_whole(endings()[0][:99], 2),
-        small_table(),
         grown[0], grown[3], grown[-1],
-        table(start(FINE[0], 4)) + scan(),
     ]
 
 
@@ -101,11 +89,9 @@ def malformed():
     d, p, y = dot([F(1)], [F(2)]), point([F(1)], F(2), [F(3)], 1), answer(F(1), F(1))
     long = [F(1)] * 512
     ends = [field(0, b""), field(1, b"\1"), field(15, words(0, 0)), field(18, words(0, 0))]
-    ends += [field(31, b""), field(38, bytes(57)), field(39, b""), field(40, b""), field(255, b"")]
+    ends += [field(31, b""), field(36, b""), field(255, b"")]
     for tag, size in ((16, 105), (17, 16), (32, 96), (33, 53), (34, 4), (35, 14)):
         ends += [field(tag, bytes(n)) for n in (0, 1, size - 1, size + 1, size + 8, 256 + size, 65535)]
-    ends += [field(36, bytes(n)) for n in (0, 2, 3, 256, 257, 65535)] + [field(36, bytes([n])) for n in (33, 64, 255)]
-    ends += [field(37, bytes(n)) for n in (1, 7, 9, 23, 25, 8159, 8161, 8168, 8184, 16384, 65528, 65535)]
     ends += [d[:3] + b"\0\2" + d[5:], p[:3] + b"\0\2" + p[5:], dot([0], long), dot(long, [0])]
     ends += [point(long, 0, [0], 1), point([0], 0, long, 1), point([0], 0, [0], 512)]
     ends += [field(34, struct.pack(">HH", 65535, 1) + bytes(8))]
@@ -114,20 +100,8 @@ def malformed():
     ends += [grown[:99] + bytes([way]) + grown[100:] for way in (2, 16, 255)]
     ends += [y[:-1], y[:2], y[:1], hz[:98], bt[:55], d[:-1], p[:-1], dot(long[:511], long[:511])[:-1]]
     ends += [grown[:n] for n in (99, 100, 107)]
-    ends += [table()[:n] for n in (1, 2, 3)] + [scan([0] * 1020)[:n] for n in (1, 2, 3, 4, 27, 8162)]
-    full, empty, lacking = table(bt, hz[:99]), table(start(FINE[0], 0)), field(36, b"\3") + bt + grown[:108]
-    files = [before + e for before in (b"", hz, grown, bt, d, full, full + scan([0] * 3), lacking) for e in ends]
-    files += [y, d + y, p + y, hz + y + d + y, bt + y + p + y, hager_zhang([NAN] * 9, 0, 0, 1, 1) + y + d + y]
-    # a scan that is no table's; an answer to a table, whole or empty, with a scan before it and without
-    scans = [scan(), scan([0] * 3), scan([0] * 1020)]
-    files += [before + s for before in (b"", hz[:99], hz, grown, bt + y, d, p, full + bt, full + d, empty + p)
-              for s in scans]
-    files += [t + s + y for t in (full, empty, table()) for s in [b""] + scans]
-    # among the starts of a table any other field, whole, and the end of the input
-    for t in (lacking, field(36, b"\1"), field(36, bytes([32])) + bt * 31, field(36, b"\2") + start(FINE[0], 0)):
-        files += [t, full + t] + [t + other for other in (y, d, p, table(), full, *scans)]
-    # one start more than it needs begins the next case, which takes no scan
-    return files + [full + bt + scans[1], table() + bt + scans[0], empty + start(FINE[0], 0) + scans[1]]
+    files = [before + e for before in (b"", hz, grown, bt, d) for e in ends]
+    return files + [y, d + y, p + y, hz + y + d + y, bt + y + p + y, hager_zhang([NAN] * 9, 0, 0, 1, 1) + y + d + y]
 
 
 # ---- running

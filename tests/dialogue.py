@@ -18,11 +18,12 @@ import sys
 import tempfile
 import time
 
-from case_file import answer, backtracks, dot, field, growing, hager_zhang, params, point, scan, table
+from case_file import answer, backtracks, dot, field, growing, hager_zhang, params, point
 from exact import NAN, ONE, TWO, ZERO, F, Random
 from make_examples import fan, plant
 from model_backtracking import ARMIJO, GOLDSTEIN, STRONG, WOLFE
-from model_cases import TABLE, WHOLE, Case, joins
+from model_cases import ANSWER, DOT, POINT, WHOLE, case_lines, search_of
+from model_lines import line
 
 LIMIT_SECONDS = 30
 # how long nothing must come where nothing may
@@ -36,7 +37,7 @@ class Dialogue:
         self.program, self.errors = program, errors
         self.p = subprocess.Popen([program], stdin=subprocess.PIPE, stdout=subprocess.PIPE, stderr=errors, bufsize=0)
         self.came, self.cases, self.lines = b"", 0, 0
-        self.fields, self.case = (), Case()
+        self.fields, self.search = (), None
 
     def __enter__(self):
         return self
@@ -77,18 +78,14 @@ class Dialogue:
         self.lines += 1
         return text.decode("ascii", "replace")
 
-    def expect_all(self, lines):
-        """These lines come; gives what came."""
-        heard = []
-        for right in lines:
-            heard.append(self.hear())
-            if heard[-1] != right:
-                self.wrong("%r came, not %r" % (heard[-1], right))
-        return heard
-
     def expect(self, lines):
         """These lines come; gives the last."""
-        return ([None] + self.expect_all(lines))[-1]
+        heard = None
+        for right in lines:
+            heard = self.hear()
+            if heard != right:
+                self.wrong("%r came, not %r" % (heard, right))
+        return heard
 
     def expect_silence(self):
         if self.came or self.readable(PAUSE_SECONDS):
@@ -97,19 +94,22 @@ class Dialogue:
     # ---- what must come
 
     def closing(self):
-        """The lines that close the case under way."""
-        return self.case.closing()
+        """The lines that close the search under way."""
+        return case_lines(self.fields)[-3:] if self.search else []
 
     def due(self, data):
         """The lines that this field, which is whole, brings."""
         tag, body = data[0], data[3:]
-        if joins(tag, self.fields):
+        if tag == ANSWER:
             self.fields += ((tag, body),)
-            return self.case.take(tag, body)
+            y = [int.from_bytes(body[i:i + 8], "big") for i in (0, 8)]
+            return [line(self.search.answer(*y), self.search)]
         lines = self.closing()
         self.cases += 1
-        self.fields, self.case = ((tag, body),), Case()
-        return lines + ["CASE %d" % self.cases] + self.case.take(tag, body)
+        self.fields = ((tag, body),)
+        self.search = None if tag in (DOT, POINT) else search_of(tag, body)
+        lines.append("CASE %d" % self.cases)
+        return lines + ([line(self.search.first, self.search)] if self.search else case_lines(self.fields))
 
     # ---- what is said
 
@@ -133,20 +133,6 @@ class Dialogue:
         while heard.startswith("ASK "):
             heard = self.say(answer(*reply(int(heard.split()[1], 16))))
         return heard
-
-    def play_table(self, starts, replies):
-        """Searches in a table, each with a plant of its own. Every scan answers all that ask, until none does. Gives
-        the number of scans, and the lines behind the last."""
-        self.say(field(TABLE, bytes([len(starts)])))
-        told = list(zip(map(self.say, starts), replies))
-        replies = [reply for line, reply in told if line.startswith("ASK ")]
-        heard, scans = [line for line, _ in told if line.startswith("ASK ")], 0
-        while any(line.startswith("ASK ") for line in heard):
-            asked = [(i, int(line.split()[1], 16)) for i, line in enumerate(heard) if line.startswith("ASK ")]
-            data = scan(*((F(i), *replies[i](x)) for i, x in asked))
-            self.send(data)
-            heard, scans = self.expect_all(self.due(data))[1:], scans + 1
-        return scans, heard
 
     def end(self, lines):
         """These lines come, and then nothing: the output ends, standard error is empty, the status is 0."""
@@ -198,30 +184,6 @@ def talk(d):
     return endings
 
 
-def engine(d):
-    """32 machines in a table, and tables of a few, one of them with a start that is refused."""
-    machines = list(chillers(Random(11), 16)) + list(growers(Random(12), 14))
-    machines += [(backtracks(c, F(0.9), F(8), *fan(ZERO), 100), fan) for c in FANS]
-    scans, endings = 0, set()
-    for some in machines[:32], machines[3:6], machines[-3:], machines[14:18]:
-        more, told = d.play_table(*zip(*some))
-        scans += more
-        endings.update(line.split()[0] for line in told)
-    if not {"STOP", "REFUSED"} <= endings:
-        d.wrong("the machines did not bring each ending: %s" % endings)
-    # lists that are refused, the empty one, and the longest, in two parts and at once
-    long = scan(*((F(i % 3), F(2 + i), F(-1)) for i in range(340)))
-    d.say(table(), scan(), scan([ONE]), scan([ZERO] * 3))
-    asks = backtracks(FANS[0], F(0.9), ONE, *fan(ZERO), 100)
-    d.say(field(TABLE, b"\3"))
-    for at in 1, 3, 55:
-        d.say_in_halves(asks, at)
-    for at in 1, 2, 3, 4, 4099, len(long) - 1:
-        d.say_in_halves(long, at, scan((TWO, TWO, TWO)))
-    d.say(long, scan((NAN, ONE, ONE)), long, scan())
-    return scans
-
-
 def halves(d):
     """Fields that come in two parts, cut in the head, at its end, in the body and before the last byte."""
     slow = plant(TWO, ONE, F(100))
@@ -254,7 +216,6 @@ def main(given):
     with tempfile.TemporaryFile() as errors, Dialogue(program, errors) as d:
         vectors(d)
         endings = talk(d)
-        scans = engine(d)
         halves(d)
         vectors(d)
         # several fields at once; then the input ends, and the search that is open is closed
@@ -264,27 +225,16 @@ def main(given):
         d.p.stdin.close()
         d.end(d.closing())
         said = d.cases, d.lines
-    # a malformed field ends the dialogue while the input is open: whole ones, among them a start in no known way, a
-    # table for 33 and a scan of no table; and heads that no field has, among them those of starts, an answer and a
-    # table whose lengths have their bytes turned round, and of scans that are too long or end within a float
-    heads = (b"\x63\xff\xff", b"\x10\x69\x00", b"\x20\x60\x00", b"\x11\x10\x00", b"\x22\x20\x00", b"\x24\x01\x00",
-             b"\x25\x1f\xe8", b"\x25\x00\x1c")
-    no_way = field(WHOLE, bytes(96) + b"\x02" + bytes(8))
-    for malformed in field(0, b""), no_way, field(TABLE, bytes([33])), scan((ZERO, ONE, ONE)), *heads:
+    # a malformed field ends the dialogue while the input is open: whole ones, the second a start in no known way, and
+    # heads that no field has, among them those of starts and an answer whose lengths have their bytes turned round
+    heads = b"\x63\xff\xff", b"\x10\x69\x00", b"\x20\x60\x00", b"\x11\x10\x00", b"\x22\x20\x00"
+    for malformed in field(0, b""), field(WHOLE, bytes(96) + b"\x02" + bytes(8)), *heads:
         with tempfile.TemporaryFile() as errors, Dialogue(program, errors) as d:
             d.say(start, answer(ONE, ONE))
             d.send(malformed)
             d.end(d.closing() + ["MALFORMED at %d" % (len(start) + len(answer(ONE, ONE)))])
-    # so does an answer to a table, or among its starts, and the end of the input there
-    for n, malformed in (1, answer(ONE, ONE)), (2, answer(ONE, ONE)), (2, scan()), (2, table()), (2, b""):
-        with tempfile.TemporaryFile() as errors, Dialogue(program, errors) as d:
-            d.say(field(TABLE, bytes([n])), start)
-            d.send(malformed)
-            if not malformed:
-                d.p.stdin.close()
-            d.end(d.closing() + ["MALFORMED at %d" % (len(table(start)))])
-    print("dialogue: %d cases and %d lines in one run, each answered before the next; %d scans of tables; %s" % (
-        *said, scans, ", ".join("%s %d" % e for e in sorted(endings.items()))))
+    print("dialogue: %d cases and %d lines in one run, each answered before the next; %s" % (
+        said + (", ".join("%s %d" % e for e in sorted(endings.items())),)))
 
 
 if __name__ == "__main__":

@@ -84,17 +84,17 @@ def exponents(cases):
 # The infinity of the former body was made from its bits. Here it is a quotient, which needs no proof and is the same
 # constant when compiled.
 SHOWN = '''
-#[no_mangle]
+#[unsafe(no_mangle)]
 pub extern "C" fn is_finite(x: f64) -> bool {
     numbers::is_finite(x)
 }
 
-#[no_mangle]
+#[unsafe(no_mangle)]
 pub extern "C" fn finite_bits(w: u64) -> bool {
     numbers::finite_bits(w)
 }
 
-#[no_mangle]
+#[unsafe(no_mangle)]
 pub extern "C" fn former(x: f64) -> bool {
     let infinity = 1.0 / 0.0;
     -infinity < x && x < infinity
@@ -169,17 +169,18 @@ def compiled():
     with tempfile.TemporaryDirectory() as folder:
         crates = os.path.join(folder, "crates")
         shutil.copytree(os.path.join(ROOT, "crates", "numbers"), os.path.join(crates, "numbers"),
-                        ignore=shutil.ignore_patterns("must-fail"))
+                        ignore=shutil.ignore_patterns("must-fail", "out"))
         os.makedirs(os.path.join(crates, "shown", "src"))
         with open(os.path.join(crates, "shown", "src", "lib.rt"), "w", encoding="utf-8") as f:
             f.write(SHOWN)
         with open(os.path.join(folder, "crates.txt"), "w", encoding="utf-8") as f:
-            f.write("numbers:\nshown: numbers\n")
-        r = subprocess.run(["rt", "staticlib", "shown"], cwd=folder, stdout=subprocess.PIPE, stderr=subprocess.STDOUT,
+            f.write("numbers:\nshown staticlib: numbers\n")
+        shown = os.path.join(crates, "shown")
+        r = subprocess.run(["rt", "lib"], cwd=shown, stdout=subprocess.PIPE, stderr=subprocess.STDOUT,
                            timeout=LIMIT_SECONDS)
         if r.returncode != 0:
-            raise Wrong("rt staticlib ended with status %d: %s" % (r.returncode, r.stdout.decode()[-500:]))
-        with open(os.path.join(folder, "target", "staticlib", "libshown.a"), "rb") as f:
+            raise Wrong("rt lib ended with status %d: %s" % (r.returncode, r.stdout.decode()[-500:]))
+        with open(os.path.join(shown, "out", "libshown.a"), "rb") as f:
             found = sections(f.read())
     return {name: found[".text." + name] for name in re.findall(r"fn (\w+)", SHOWN)}
 

@@ -3,9 +3,10 @@
 
 usage: front.py
 
-The front and bin/ are copied into a project of four small programs in a temporary folder, beside a stand-in of rt
-that keeps rt's files and prints rt's lines. There proofs fail, builds are broken off and rt is absent. A few jobs run
-through the project's own front, with the real rt and programs. Ends with status 1 at the first check that fails.
+The front and bin/ are copied into a project of four small programs in a temporary folder, with a stand-in of
+bin/prove that keeps its files and prints its lines, beside one of rt that says its version. There proofs fail, builds
+are broken off and rt is absent. A few jobs run through the project's own front, with the real rt and programs. Ends
+with status 1 at the first check that fails.
 """
 # first, since it says where Python is too old for the rest
 from programs import ROOT, ready, started
@@ -32,24 +33,21 @@ keep_bounds: base io
 defaults: base
 """
 
-# Each crate takes a moment. WAIT has rt wait for the file go, FAIL/NAME has what a crate that fails says, and PROGRAM
-# is what is built. A prover runs in the background, and so ignores an interrupt from the keyboard, as rt's do.
 RT = """#!/bin/sh
-fake=$(dirname "$0")/..
-case $1 in version) cat "$fake/version"; exit ;; esac
-shift
-echo "check $*" >>"$fake/calls"
+case $1 in version) cat "$(dirname "$0")/../version" ;; esac
+"""
+
+# Each crate takes a moment. WAIT has it wait for the file go, FAIL/NAME has what a crate that fails says, and PROGRAM
+# is what is built. A prover runs in the background, and so ignores an interrupt from the keyboard, as rt's do.
+PROVE = """#!/bin/sh
+fake='FAKE'
+echo "prove $*" >>"$fake/calls"
 mkdir "$fake/only" || echo "two at once" >>"$fake/calls"
 sleep 0.03
 mkdir -p target/log target/stamp target/bin
-case $* in
-    "") plan="base mid search cases keep_bounds defaults" ;;
-    search) plan="base mid search" ;;
-    *) plan="base $1" ;;
-esac
-[ -z "$1" ] || [ -d "crates/$1" ] || { echo "rt: crates.txt: $1 is not listed" >&2; rmdir "$fake/only"; exit 2; }
 bad="" count=0
-for crate in $plan; do
+for crate in "$@"; do
+    [ -d "crates/$crate" ] || { echo "rt: crates.txt: there is no crates/$crate" >&2; rmdir "$fake/only"; exit 2; }
     : >"target/log/$crate.out"
     if [ -n "$bad" ]; then
         echo "rt: $crate NOT PROVED: its dependency $bad is not proved"
@@ -165,7 +163,8 @@ class Project:
         for name in (self.root, self.tmp, self.other):
             os.makedirs(name)
         shutil.copy(os.path.join(ROOT, "altugmesh"), self.root)
-        shutil.copytree(os.path.join(ROOT, "bin"), self.at("bin"), symlinks=True)
+        shutil.copytree(os.path.join(ROOT, "bin"), self.at("bin"))
+        write(self.at("bin", "prove"), PROVE.replace("FAKE", self.fake), 0o755)
         write(self.at("crates.txt"), CRATES)
         write(self.at("toolchain"), "kit-1 logic 1\n")
         write(self.at("CHANGELOG.md"), "# Changelog\n\nText.\n\n## 1.2: a name\n\n## 1.1\n")
@@ -264,7 +263,7 @@ def first_build(p):
     os.remove(p.at("target", "stamp", "search"))
     told = said("proving mid, 1 crate left", "proving search, 0 crates left")
     p.expect("one crate changed", p.build("search"), (0, "", told))
-    check("rt was called thrice", p.calls() == ["check search"] * 3, repr(p.calls()))
+    check("bin/prove was called thrice", p.calls() == ["prove base mid search"] * 3, repr(p.calls()))
     p.expect("prove", p.front("prove"), (0, said("6 crates are proved"), said(
         "proving cases, 2 crates left", "proving keep_bounds, 1 crate left", "proving defaults, 0 crates left")))
     p.expect("prove again", p.front("prove"), (0, said("6 crates are proved"), ""))
@@ -342,8 +341,8 @@ def failed_proof(p):
               said("rt check failed: cases: what the program wrote is not what its file 'stdout' has").strip())
     p.unbuilt()
     os.rename(p.at("crates", "defaults"), p.at("crates", "gone"))
-    explained("what rt itself refuses", p.build("defaults"),
-              said("rt check failed: crates.txt: defaults is not listed").strip())
+    explained("a crate that is not there", p.build("defaults"),
+              said("rt check failed: crates.txt: there is no crates/defaults").strip())
     os.rename(p.at("crates", "gone"), p.at("crates", "defaults"))
     p.tidy("failed proof")
 
@@ -438,7 +437,7 @@ def one_at_a_time(p):
     at_once = [p.start(*p.build("search")) for _ in range(4)]
     results = [p.rest(b) for b in at_once]
     check("four builds at once", [r[0] for r in results] == [0] * 4, repr(results))
-    check("one rt at a time", p.calls() == ["check search"] * 4, repr(p.calls()))
+    check("one at a time", p.calls() == ["prove base mid search"] * 4, repr(p.calls()))
     # one that was left behind is taken away: its process is gone or something else, or it never had one
     for left in ("999999999", str(os.getpid()), None):
         p.unbuilt()
@@ -475,12 +474,12 @@ def other_programs(p):
         p.unbuilt()
         os.makedirs(p.at("target", "bin"))
         got = p.run(*p.build("--program", path))
-        check("--program " + path, (got[0], p.calls()) == (0, ["check cases"]), repr(got))
+        check("--program " + path, (got[0], p.calls()) == (0, ["prove base cases"]), repr(got))
     p.unbuilt()
     write(os.path.join(p.other, "mine"), "#!/bin/sh\n", 0o755)
     write(os.path.join(p.other, "text"), "")
     p.expect("--program mine", p.build("--program", "mine"), (0, "", ""))
-    check("rt was not called", not os.path.exists(os.path.join(p.fake, "calls")))
+    check("bin/prove was not called", not os.path.exists(os.path.join(p.fake, "calls")))
     for path, why in (("text", "text cannot be run"), ("nosuch", "there is no program nosuch"),
                       (".", ". is a folder, not a program"), ("no/such", "there is no program no/such"),
                       ("../the project/bin/build", "../the project/bin/build is no program of this project"),

@@ -7,7 +7,7 @@ The programs are bin/search, bin/cases and bin/keep_bounds where none are given.
 models.
 
 - Jobs that go on to an iteration limit of 10,000: some 20,000 lines each.
-- Fields of a case file, among them the longest, that a read cuts at every place; so a table with the longest scan.
+- Fields of a case file, among them the longest, that a read cuts at every place.
 - The same at the end of a full buffer of 65,536 bytes: at some hundred places, with --all at every place.
 - A case file with more than a million fields.
 - No job, of some forty bytes up to millions, that begins with a job, with bounds or without.
@@ -33,11 +33,11 @@ import termios
 import threading
 import time
 
-from case_file import answer, backtracks, dot, growing, hager_zhang, params, point, scan, table
+from case_file import answer, backtracks, dot, growing, hager_zhang, params, point
 from exact import MAX, NAN, ONE, SIGN, ZERO, F, Random
 from lists_hagerzhang import endings
 from make_jobs import before, job, stored
-from model_backtracking import ARMIJO, STRONG
+from model_backtracking import ARMIJO
 from model_cases import case_lines, expected, parsed
 from model_jobs import lines_of
 from model_lines import printed
@@ -118,18 +118,9 @@ def limit_job(k, low, high, first):
 
 # ---- fields that are cut
 
-def longest_scan():
-    """A table of two, and a list of 340 answers to them. No cost meets a condition, so that every answer brings the
-    next step; were one not finite, a search would be over, and a number of no search would refuse the list."""
-    r = Random(11)
-    starts = [backtracks((kind, F(0.1), F(0.9)), F(0.9), ONE, ONE, F(-1), 10000) for kind in (ARMIJO, STRONG)]
-    answers = [(F(i % 3 % 2), F(2 + r.below(100)), r.like()) for i in range(340)]
-    return table(*starts) + scan(*answers)
-
-
 def cut_fields():
     """The longest point and dot, whose lengths alone are read, since they are refused; a point and a dot whose every
-    number counts; the longest start; and a table with the longest scan, which are four fields."""
+    number counts; and the longest start."""
     r = Random(5)
     long, full = [[r.like() for _ in range(n)] for n in (511, 256)]
     return [
@@ -138,7 +129,6 @@ def cut_fields():
         ("point of 256", point(full, r.like(), full[::-1], 256)),
         ("dot of 256", dot(full, full[1:] + full[:1])),
         ("growing start", growing(params(low=NAN, first=full[0] & ~SIGN), full[1], full[2] | SIGN, 5, 6, 7)),
-        ("table with a scan of 340", longest_scan()),
     ]
 
 
@@ -178,21 +168,16 @@ def filler(size):
     return out
 
 
-def begun(case):
-    """Where the fields of a case begin, and where the last one ends."""
-    return [0, *itertools.accumulate(3 + len(body) for _, body in parsed(case)[0][0])]
-
-
 def cut_by_windows(name, field, program, places):
     """A file is read 65,536 bytes at a time: what is left of a cut field goes to the front, and the buffer is filled up
-    again. So each window ends so many bytes behind the beginning of a field, or of the first one of a case."""
-    lines, ends = functools.lru_cache(maxsize=None)(case_lines), begun(field)
+    again. So each window ends so many bytes behind the beginning of a field."""
+    lines = functools.lru_cache(maxsize=None)(case_lines)
     for i in range(0, len(places), 256):
         data, window = b"", 0
         for r in places[i:i + 256]:
             begin = window + WINDOW - r
             data += filler(begin - len(data)) + field
-            window = window + WINDOW if r in ends else begin + max(at for at in ends if at < r)
+            window = begin if 0 < r < len(field) else window + WINDOW
         run_file("a %s at the end of a buffer" % name, program, data, expected(data, lines))
     return len(places)
 
@@ -212,13 +197,11 @@ def many_fields(answers, cases):
     lines = case_lines(over + over[-1:])
     assert lines[-4] == "REFUSED 8"
     first = ["CASE 1"] + lines[:-4] + ["REFUSED 8"] * answers + lines[-3:]
-    asks = backtracks((ARMIJO, F(0.1), ZERO), F(0.9), ONE, ONE, F(-1), 5)
     short = [
-        asks + answer(F(9), ZERO) + answer(ZERO, ZERO),
+        backtracks((ARMIJO, F(0.1), ZERO), F(0.9), ONE, ONE, F(-1), 5) + answer(F(9), ZERO) + answer(ZERO, ZERO),
         hager_zhang(params(), ONE, F(-1), 5, 5) + answer(ONE, ONE),
         hager_zhang(params(epsilon=MAX), F(3), ONE, 5, 5),
         growing(params(), ONE, F(-1), 5, 5, 1) + answer(ZERO, F(-1)) * 3,
-        table(asks) + scan((ZERO, F(9), ZERO)) * 2 + scan([ONE]),
         backtracks((ARMIJO, F(0.1), ZERO), F(0.9), ONE, NAN, F(-1), 5) + answer(ONE, ONE),
     ]
     texts = [printed(case_lines(parsed(case)[0][0])) for case in short]

@@ -23,11 +23,11 @@ import sys
 import tempfile
 
 import lists_growing
-from case_file import answer, dot, hager_zhang, params, point, scan, table
+from case_file import answer, dot, hager_zhang, params, point
 from exact import NAN, ONE, F
 from lists_hagerzhang import endings
 from make_jobs import before, job
-from model_cases import case_lines, expected, parsed
+from model_cases import SEARCHES, expected, parsed
 from model_lines import printed
 from native import over_native
 
@@ -254,12 +254,13 @@ def broken_off(s, data, out):
 
 
 def until(data):
-    """What `cases` must have written when an input breaks off: the lines of the fields that are whole. The last case is
-    not closed, as it has not ended."""
-    lines, (cases, _) = [], parsed(data)
-    for k, fields in enumerate(cases):
-        lines += ["CASE %d" % (k + 1)] + case_lines(fields, left=k + 1 < len(cases))
-    return printed(lines)
+    """What `cases` must have written when an input breaks off: the lines of the fields that are whole. The last search
+    is not closed, as it has not ended."""
+    cases, cut = parsed(data)
+    lines = expected(data if cut is None else data[:cut]).decode().splitlines(True)
+    if cases and cases[-1][0][0] in SEARCHES:
+        del lines[-3:]
+    return "".join(lines).encode()
 
 
 def search_broken_off(s):
@@ -274,10 +275,6 @@ def cases_broken_off(s):
     grown = lists_growing.endings()[0]
     for n in [98, 99, 107, 108, 109, 127, len(grown)]:
         broken_off(s, grown[:n], until(grown[:n]))
-    # in a table: before its starts are in, between them, behind them, and in a scan
-    both = table(start[:99], grown[:108]) + scan((ONE, ONE, ONE), (F(0), ONE, ONE)) + dot([ONE], [ONE])
-    for n in [3, 4, 5, 102, 103, 104, 210, 211, 212, 213, 214, 238, 261, 262, 263, len(both)]:
-        broken_off(s, both[:n], until(both[:n]))
     refused = hager_zhang(params(), F(1), NAN, 1, 1) + answer(ONE, ONE)
     for data in refused, dot([ONE], [ONE]), dot([ONE], [ONE]) + start[:120], s.data[:70000], s.data[:90001]:
         broken_off(s, data, until(data))

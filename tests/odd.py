@@ -7,15 +7,12 @@ usage: odd.py CASES EXPECTED     writes the case file, and the text that `cases`
 The expected lines were worked out by hand from the rules (01, 02); nothing here computes them. In them `|` parts lines,
 and a float is written by its first hexadecimal digits and a dot, which stands for zeros up to 16 digits: 3FF. is 1.0,
 4. is 2.0, C. is -2.0 and 8. is -0.0. A case is its name, the words of 01 or 02 that decide it, its first field, the
-answers, the lines for these, and the closing lines. A table has its starts and its lists with the first field; an
-answer in a list is the number of a search, a cost and a slope.
+answers, the lines for these, and the closing lines.
 
 Where nothing else is said: delta 0.25, sigma 0.5, epsilon 0, theta 0.5, gamma 0.5, bounds 0 and 4, start step 1,
 f0 = 1, s0 = -2. So L = 1, "wolfe" is f - 1 <= (0.25*x)*-2 with g >= -1, and "approximate" is 1 >= g >= -1 with f <= 1.
 START answers the first three asks: a = (0, 1, -2), b = (4, 9, 6), c = (1, 1, -2). Then c is best, no verdict holds by
-its slope, and S1 asks secant(a, b) = 8/8 = 1. A growing start has K = 2, and both bounds are 0. In a table ASKS is a
-backtracking start with Armijo's c = 0.5: its steps are 1, 0.5, 0.25 .., and f <= 1 - t meets it, at 1 a cost of 0 and
-at 0.5 one of 0.5.
+its slope, and S1 asks secant(a, b) = 8/8 = 1. A growing start has K = 2, and both bounds are 0.
 """
 import sys
 
@@ -60,10 +57,6 @@ def bt(condition, c1, c2=0.0, rho=0.5, alpha=1.0, f0=1.0, s0=-2.0, N=100):
     return case_file.backtracks((condition, *floats(c1, c2)), *floats(rho, alpha, f0, s0), N)
 
 
-def table(starts, *lists):
-    return case_file.table(*starts) + b"".join(case_file.scan(*(floats(*y) for y in answers)) for answers in lists)
-
-
 def dot(a, b):
     return case_file.dot(floats(*a), floats(*b))
 
@@ -72,7 +65,6 @@ def point(x0, alpha, d, room):
     return case_file.point(floats(*x0), *floats(alpha), floats(*d), room)
 
 
-ASKS = bt(ARMIJO, 0.5)
 CASES = [
     # both zeros
     ("minus-zero-slope-is-U1", "U1: c.g >= 0 (minus zero too): (a, c).", hz(), START + [(0.5, -0.0), (7, 7)],
@@ -489,81 +481,6 @@ CASES = [
      grow(start=EPS / 2), [(9, -0.0), (9, 0)],
      "CASE 117 | ASK 3CA. | ASK 3CA. | ASK 3C9.",
      "BRACKET 0. 3FF. C. 3CA. 4022. 8. | BEST 0. 3FF. C. | COUNTS evaluations 2 iterations 0"),
-    # tables and lists of answers (02, request 6). The file has 25,714 bytes up to here, and each case says how many it
-    # adds: 4 for the table, 99, 108 or 56 for a start (32, 16, 33), 3 for a list and 24 for each answer in it
-    ("a-list-for-two", "(search number, cost, slope) laid end to end in one lent slice",         # 4+99+56+51+51 = 261
-     table([hz(), ASKS], [(0, 1, -2), (1, 0.25, NAN)], [(1, 0.5, NAN), (0, 9, 6)]), [],
-     # 0 is told a at 0, then b at 4; 1 is told 0.25, which is above 0, then 0.5, which is 1 - 0.5
-     "CASE 118 | ASK 0. | ASK 3FF. | SCAN | ASK 401. | ASK 3FE."
-     " | SCAN | ASK 3FF. | STOP met 3FE. evaluations 2 iterations 1",
-     "SEARCH 0 | BRACKET none | BEST none | COUNTS evaluations 2 iterations 0"
-     " | SEARCH 1 | BRACKET none | BEST none | COUNTS evaluations 2 iterations 1"),
-    ("named-three-times-and-twice", "one at a time in list order, a search named twice included",    # 4+99+75+51 = 229
-     # the answers of case 1
-     table([hz()], [(0, 1, -2), (0, 9, 6), (0, 1, -2)], [(0, 0.5, -0.0), (0, 7, 7)]), [],
-     "CASE 119 | ASK 0. | SCAN | ASK 3FF. | SCAN | STOP wolfe 3FF. evaluations 5 iterations 1",
-     "SEARCH 0 | BRACKET 0. 3FF. C. 3FF. 3FE. 8. | BEST 3FF. 3FE. 8. | COUNTS evaluations 5 iterations 1"),
-    ("ended-by-the-first-of-two", "A search that has ended is still in the table and its answers meet refusal 8.",
-     table([ASKS], [(0, 0, 0), (0, 9, 9)], []), [],                                                  # 4+56+51+3 = 114
-     "CASE 120 | ASK 3FF. | SCAN | REFUSED 8 | SCAN | REFUSED 8",
-     "SEARCH 0 | BRACKET none | BEST none | COUNTS evaluations 1 iterations 0"),
-    ("a-stop-is-shown-until-8", "what it last told, be it in this scan or before (docs/FORMATS.md)",
-     table([ASKS, ASKS], [(0, 0, 0)], [(1, 2, 0)], [(0, 0, 0)], [(1, 2, 0)]), [],                   # 4+112+4*27 = 224
-     "CASE 121 | ASK 3FF. | ASK 3FF. | SCAN | STOP met 3FF. evaluations 1 iterations 0 | ASK 3FF."
-     " | SCAN | STOP met 3FF. evaluations 1 iterations 0 | ASK 3FE."
-     " | SCAN | REFUSED 8 | ASK 3FE. | SCAN | REFUSED 8 | ASK 3FD.",
-     "SEARCH 0 | BRACKET none | BEST none | COUNTS evaluations 1 iterations 0"
-     " | SEARCH 1 | BRACKET none | BEST none | COUNTS evaluations 2 iterations 1"),
-    ("a-NaN-ends-its-own-search", "A refused answer ends only its own search.",             # 4+56+56+99+3+5*24 = 338
-     table([ASKS, bt(WOLFE, 0.25, c2=0.5), hz()],
-           # 0 does not read the slope; 1 does, is refused by 2, and then by 8
-           [(0, 2, NAN), (1, 2, NAN), (2, 1, -2), (1, 0, 0), (0, 0.5, NAN)]), [],
-     "CASE 122 | ASK 3FF. | ASK 3FF. | ASK 0."
-     " | SCAN | STOP met 3FE. evaluations 2 iterations 1 | REFUSED 8 | ASK 401.",
-     "SEARCH 0 | BRACKET none | BEST none | COUNTS evaluations 2 iterations 1"
-     " | SEARCH 1 | BRACKET none | BEST none | COUNTS evaluations 0 iterations 0"
-     " | SEARCH 2 | BRACKET none | BEST none | COUNTS evaluations 1 iterations 0"),
-    ("3-for-the-last-number", "both are checked over the whole list first and change nothing",
-     table([ASKS], [(0, 0, 0), (1, 0, 0)], [], [(0, 2, 0)]), [],                                  # 4+56+51+3+27 = 141
-     "CASE 123 | ASK 3FF. | REFUSED 3 | SCAN | ASK 3FF. | SCAN | ASK 3FE.",
-     "SEARCH 0 | BRACKET none | BEST none | COUNTS evaluations 1 iterations 0"),
-    ("1-before-3", "1 if the length is no multiple of 3, 3 if any number, NaN too, names no search; then 1, 9, 2, 3, 4",
-     # 1 float, 3, 5, and 3 each; 4+56+11+27+43+3*27+3 = 225
-     table([ASKS], [(NAN,)], [(NAN, 0, 0)], [(0, 0, 0), (NAN, 0)], [(0.5, 0, 0)], [(-1, 0, 0)], [(INF, 0, 0)], []), [],
-     "CASE 124 | ASK 3FF. | REFUSED 1 | REFUSED 3 | REFUSED 1 | REFUSED 3 | REFUSED 3 | REFUSED 3 | SCAN | ASK 3FF.",
-     "SEARCH 0 | " + NONE),
-    ("minus-zero-names-search-0", "minus zero names search 0",                                        # 4+112+54 = 170
-     table([ASKS, ASKS], [(-0.0, 0, 0)], [(-TINY, 0, 0)]), [],
-     "CASE 125 | ASK 3FF. | ASK 3FF. | SCAN | STOP met 3FF. evaluations 1 iterations 0 | ASK 3FF. | REFUSED 3",
-     "SEARCH 0 | BRACKET none | BEST none | COUNTS evaluations 1 iterations 0 | SEARCH 1 | " + NONE),
-    ("refused-starts-have-no-seat", "numbered from 0 in that order; a refused start is in no seat (docs/FORMATS.md)",
-     # 4+56+99+108+56+51+27 = 401
-     table([bt(ARMIJO, 0.5, N=0), hz(), grow(s0=0.0), ASKS], [(0, 1, -2), (1, 0, 0)], [(2, 0, 0)]), [],
-     "CASE 126 | REFUSED 3 | ASK 0. | REFUSED 10 | ASK 3FF."
-     " | SCAN | ASK 401. | STOP met 3FF. evaluations 1 iterations 0 | REFUSED 3",
-     "SEARCH 0 | BRACKET none | BEST none | COUNTS evaluations 1 iterations 0"
-     " | SEARCH 1 | BRACKET none | BEST none | COUNTS evaluations 1 iterations 0"),
-    ("an-empty-table", "3 if any number .. names no search in the table; 1 if the length is no multiple of 3",
-     table([], [], [(0, 0, 0)], [(0, 0)]), [], "CASE 127 | SCAN | REFUSED 3 | REFUSED 1", ""),          # 4+3+27+19 = 53
-    ("31-names-the-last-of-32", "whole-valued floats 0 to 31; 3 if any number .. names no search in the table",
-     table([ASKS] * 32, [(31, 0, 0)], [(32, 0, 0)]), [],                                           # 4+32*56+54 = 1,850
-     "CASE 128" + " | ASK 3FF." * 32 + " | SCAN" + " | ASK 3FF." * 31
-     + " | STOP met 3FF. evaluations 1 iterations 0 | REFUSED 3",
-     " | ".join("SEARCH %d | " % i + NONE for i in range(31))
-     + " | SEARCH 31 | BRACKET none | BEST none | COUNTS evaluations 1 iterations 0"),
-    ("both-ways-of-a-field-16", "11 .. if K growths are used up; its answers meet refusal 8",
-     # 0 grows to 5 and is refused; 1 is told a, then b; 4+108+108+75+51 = 346
-     table([grow(K=1), three()], [(0, 1, -2), (1, 1, -2), (0, 1, -2)], [(0, 1, -2), (1, 9, 6)]), [],
-     "CASE 129 | ASK 3FF. | ASK 0. | SCAN | REFUSED 11 | ASK 401. | SCAN | REFUSED 8 | ASK 3FF.",
-     "SEARCH 0 | BRACKET none | BEST none | COUNTS evaluations 2 iterations 0"
-     " | SEARCH 1 | BRACKET none | BEST none | COUNTS evaluations 2 iterations 0"),
-    ("a-search-behind-a-table", "ask a = min, b = max", hz(), [(1, -2)],                                  # 99+19 = 118
-     "CASE 130 | ASK 0. | ASK 401.", "BRACKET none | BEST none | COUNTS evaluations 1 iterations 0"),
-    # the last, since nothing is read behind it: a table of 2 with one start, and an answer in place of the other. The
-    # cases 118 to 130 add 261+229+114+224+338+141+225+170+401+53+1,850+346+118 = 4,470, table and start 4+56 = 60
-    ("an-answer-among-the-starts", "any other field there is malformed; the searches that are seated have their closing"
-     " lines (docs/FORMATS.md)", case_file.field(36, bytes([2])) + ASKS, [(0, 0)],
-     "CASE 131 | ASK 3FF.", "SEARCH 0 | " + NONE + " | MALFORMED at 30244"),
 ]
 
 

@@ -1,12 +1,11 @@
 #!/usr/bin/env python3
-"""Says how many of the random jobs would show a slip of the pen, a wrong default, coefficient or grouping; and how many
-of the listed tables one in a table or a scan.
+"""Says how many of the random jobs would show a slip of the pen: a wrong default, coefficient or grouping.
 
 usage: slips.py [--count N] [--seed N] [--quick]
 
-Each slip is made in a copy of the model, and the jobs of random_jobs.py, or the cases of lists_tables.py, are told by
-it and by the model as it is. No program is run. Prints the counts, and ends with status 1 where no job or no table
-shows a slip that one can show. Quick, it tries each slip until a first one shows it, and prints no counts.
+Each slip is made in a copy of the model, and the jobs of random_jobs.py are told by it and by the model as it is. No
+program is run. Prints the counts, and ends with status 1 where no job shows a slip that one can show. Quick, it tries
+each slip until a first job shows it, and prints no counts.
 """
 # first, since it says where Python is too old for the rest
 from harness import Wrong, command, options
@@ -14,13 +13,10 @@ from harness import Wrong, command, options
 import itertools
 import sys
 
-import lists_tables
 from exact import F, bits, flt
-from model_cases import TABLE
 from model_hagerzhang import NAMES
 from native import over_native
 from random_jobs import COUNT, SEED, Jobs
-from slips_tables import SLIPS
 
 # What no job shows, whatever it is. No rule reads eta. Where f0 is 0, L is 0 for every epsilon; on the other curves no
 # trial between bounds from 0 on has a falling slope and a cost above f0, and no best step a cost near f0 and a slope
@@ -105,26 +101,6 @@ def slips():
     ]
 
 
-def check_tables(most):
-    """Each slip in the model of tables must be shown by one of the listed tables."""
-    cases = [case for case in dict.fromkeys(lists_tables.listed()) if case[0] == TABLE]
-    model, = over_native("model_cases")
-    told, missed = [(case, model.expected(case)) for case in cases], []
-    for name, methods in SLIPS.items():
-        wrong, tables = over_native("model_cases", "model_tables")
-        for method, slip in methods.items():
-            setattr(tables.Table, method, slip)
-        shown = (case for case, text in told if wrong.expected(case) != text)
-        count = sum(1 for _ in itertools.islice(shown, most))
-        if count == 0:
-            missed.append(name)
-        if not most:
-            print("%-56s %5d" % (name, count), flush=True)
-    if missed:
-        raise Wrong("no table shows a slip: %s" % "; ".join(missed))
-    print("slips: %d tables, %d slips; each is shown" % (len(cases), len(SLIPS)))
-
-
 def main(given):
     rest, values, named = options(given, {"--count": COUNT, "--seed": SEED}, {"--quick"}) or ([None], None, None)
     if rest:
@@ -156,7 +132,6 @@ def main(given):
         raise Wrong("a job shows a slip of %s, which none can" % ", ".join(wrongly))
     print("slips: seed %d, %d jobs, %d slips; each that a job can show is shown" % (
         values["--seed"], values["--count"], tried))
-    check_tables(most)
 
 
 if __name__ == "__main__":
