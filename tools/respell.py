@@ -5,9 +5,9 @@ usage: respell.py            at the top of a checkout in which the toolchain's p
 
 A definition, a constructor or a variable in camel case becomes snake case (absOf, abs_of), in crates/, in the wrong
 programs of must-fail/ and in the pages that speak of today. Types, facts and modules keep their capitals, and so do the
-letters of the rules, as S2, U3 and L. Names of src/, of programs, strings and outputs stay. In a wrong program the names
-that port.py turned elsewhere are turned too, and a projection is written tight. Each 'old:' of a wrong program must then
-stand exactly once in its file: those that do not are printed, for a mend by hand.
+letters of the rules, as S2, U3 and L. Names of src/, of programs, strings and outputs stay. In a wrong program the
+names that port.py turned elsewhere are turned too, and a projection is written tight. Each 'old:' of a wrong program
+must then stand exactly once in its file: those that do not are printed, for a mend by hand.
 """
 import glob
 import json
@@ -30,7 +30,8 @@ OTHERWISE = {
 BESIDES = ["fL", "qK", "openingOf", "hagerZhangMachine", "hagerZhangOver", "trialOf", "trialSetup", "trialsFresh",
            "trialsMachine", "trialsOver", "trialsSetup", "trialsStart"]
 # what port.py made of the repository's own definitions, for the wrong programs, which it leaves alone
-TURNED = json.loads("""{"withNumber": "with_number", "answer-at": "answer_at", "none-left": "none_left", "size-fits": "size_fits",
+TURNED = json.loads("""
+{"withNumber": "with_number", "answer-at": "answer_at", "none-left": "none_left", "size-fits": "size_fits",
 "named-step": "named_step", "all-seen": "all_seen", "all-named": "all_named", "named-here": "named_here", "both-ways":
 "both_ways", "any-order": "any_order", "either-order": "either_order", "whole-part": "whole_part", "number-is":
 "number_is", "allBelow": "all_below", "none-below": "none_below", "none-above": "none_above", "below-equal":
@@ -86,9 +87,10 @@ TURNED = json.loads("""{"withNumber": "with_number", "answer-at": "answer_at", "
 "none_found", "first-holds": "first_holds", "none-before": "none_before", "sum-first": "sum_first", "last-sum":
 "last_sum", "by-2": "by_2", "by-4": "by_4", "first-or-none": "first_or_none", "first-then": "first_then",
 "same-length": "same_length", "moved-length": "moved_length", "numberIn": "number_in", "pointOf": "point_of",
-"byteAt": "byte_at", "pairOf": "pair_of", "wordOf": "word_of", "floatOf": "float_of"}""")
-DECLARED = re.compile(r"^\s*(?:(?:pub|abbrev|unfoldable|data|record)\s+)*([a-z][\w'₂₀-]*)\s*(?:\{[^}]*\}|\([^)]*\))*\s*:",
-                      re.M)
+"byteAt": "byte_at", "pairOf": "pair_of", "wordOf": "word_of", "floatOf": "float_of"}
+""")
+MARKS = r"(?:(?:pub|abbrev|unfoldable|data|record)\s+)*"
+DECLARED = re.compile(r"^\s*" + MARKS + r"([a-z][\w'₂₀-]*)\s*(?:\{[^}]*\}|\([^)]*\))*\s*:", re.M)
 CAMEL = re.compile(r"[a-z0-9][A-Z]")
 PAGES = ["README.md", "CONTRIBUTING.md", "docs/API.md", "docs/ARCHITECTURE.md", "docs/CLOSING.md", "docs/DECISIONS.md",
          "docs/DIFFERENCES.md", "docs/FORMATS.md", "docs/PROOFS.md", "docs/RULES.md", "tests/README.md"]
