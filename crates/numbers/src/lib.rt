@@ -46,6 +46,7 @@ pub fn abs(x: f64) -> f64
 // ---- a float and its 64 bits, at a NaN too: as files and printed lines write one
 
 // The float with the 64 bits w. Every NaN pattern gives the NaN.
+#[tactic(auto, using(crate::proofs::Bits::nan_above, std::proofs::lemmas::Float::not_nan_f64_bits))]
 pub fn float_of(w: u64) -> f64
     ensures { result ≡ of_bits binary64 w }
 {

@@ -34,6 +34,7 @@ pub struct Evaluations(pub u32);
 pub struct Iterations(pub u32);
 
 // One more. It stops at the largest count, which no search that was started reaches.
+#[tactic(auto, unfolding(crate::specs::Counters::one_more))]
 fn one_more(n: u32) -> u32
     ensures { result ≡ one_more n }
 {

@@ -1,5 +1,4 @@
 -- `numbers::bits_of` meets its contract: what equals itself is no NaN. Assumes nothing.
-use borrow.Author.Rules.{rules}
 use mathlib.Core.Path.{◌≡◌, sym, subst, ◌∙◌, ap}
 use mathlib.Core.Bool.{false, not}
 use lib.Dec.{T}

@@ -1,5 +1,4 @@
 -- `numbers::both_finite` meets its contract. Assumes nothing.
-use borrow.Author.Rules.{rules}
 use Rattle.numbers.proofs.both_finite.Goals as goal
 
 pub returns : goal.returns

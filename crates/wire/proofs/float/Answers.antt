@@ -1,5 +1,4 @@
 -- `wire::float` meets its contract. Assumes nothing.
-use borrow.Author.Rules.{rules}
 use mathlib.Core.Path.{ap, ◌∙◌}
 use lib.Ieee.{binary64, of_bits}
 use Rattle.wire.proofs.float.Goals as goal

@@ -1,6 +1,5 @@
 -- `wire::from` meets its contract: a part up to the end is all that is left, and past the end nothing is. Assumes
 -- nothing.
-use borrow.Author.Rules.{rules}
 use mathlib.Core.Path.{◌≡◌, ◌∙◌, sym}
 use mathlib.Core.List.{List}
 use Prim.Native.Nat.{ℕ, ◌-◌, ◌≤◌}

@@ -1,5 +1,4 @@
 -- `conditions::Condition::answer_finite` meets its contract. Assumes nothing.
-use borrow.Author.Rules.{rules}
 use Rattle.floats.proofs.Branches.{if_yes, if_no, by_call}
 use Rattle.conditions.proofs.Condition.answer_finite.Goals as goal
 

@@ -1,5 +1,4 @@
 -- `conditions::Condition::constants_finite` meets its contract. Assumes nothing.
-use borrow.Author.Rules.{rules}
 use Rattle.conditions.proofs.Condition.constants_finite.Goals as goal
 
 pub returns-in-Wolfe : goal.returns-in-Wolfe

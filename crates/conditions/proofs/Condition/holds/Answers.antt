@@ -1,5 +1,4 @@
 -- `conditions::Condition::holds` meets its contract. Assumes nothing.
-use borrow.Author.Rules.{rules}
 use Rattle.conditions.proofs.Condition.holds.Goals as goal
 
 pub returns-in-Armijo : goal.returns-in-Armijo

@@ -1,5 +1,4 @@
 -- `conditions::Condition::in_range` meets its contract. Assumes nothing.
-use borrow.Author.Rules.{rules}
 use Rattle.conditions.proofs.Condition.in_range.Goals as goal
 
 pub returns-in-Armijo : goal.returns-in-Armijo
