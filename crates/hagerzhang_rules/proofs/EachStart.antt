@@ -6,7 +6,7 @@ use mathlib.Core.Bool.{true, ◌&&◌}
 use mathlib.Core.List.{List, [], ◌∷◌}
 use mathlib.Core.Logic.{inl, inr}
 use mathlib.Core.Option.{none}
-use Prim.Native.Nat.{ℕ, zero, suc, ◌+◌, ◌≤◌, ◌<◌}
+use Prim.Native.Nat.{ℕ, zero, suc, ◌+◌, ◌<◌}
 use native.Mathlib.Omega.{arith}
 use lib.ListN.{length}
 use lib.Ieee.{Float, binary64, fits, of_bits}
@@ -43,7 +43,7 @@ use Rattle.hagerzhang_rules.proofs.Apart.{not-both}
 use Rattle.hagerzhang_rules.proofs.Ranges.{Accepted, level-finite, f0-finite, s0-finite, gamma-finite}
 use Rattle.hagerzhang_rules.proofs.Ranges.{gamma-above, start-finite, min-finite, max-finite, min-from-zero}
 use Rattle.hagerzhang_rules.proofs.Ranges.{low-below-high, start-above, start_fits, s0-below, f0-below-level}
-use Rattle.hagerzhang_rules.proofs.Iterations.{Ready, Fine, Stands, Arrives, stays, begins, none-asked}
+use Rattle.hagerzhang_rules.proofs.Iterations.{Ready, Fine, Stands, Arrives, begins, none-asked}
 use Rattle.hagerzhang_rules.proofs.StaysBracket.{low_meets, high_meets, Frame, Low, SoundCame, is-to, is-on}
 use Rattle.hagerzhang_rules.proofs.StaysBracket.{sound-premise, falling, under, more, now}
 use Rattle.hagerzhang_rules.proofs.Within.{Goes, one-more-asked, one-more-had, ends, asks, narrows}
