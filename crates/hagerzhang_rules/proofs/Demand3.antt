@@ -144,8 +144,8 @@ module _ (o : Options) (f0 s0 : Float) (ok : Accepted o f0 s0) where
     ended-within y (last q) why e is running =
         let at : Stands s (since nothing_yet (noted here y asked) (last q)) (end_with (last q) (refusal why)) =
         rw (e, is) at (stands_after y stands) in
-        inr (at-S1 (since nothing_yet (noted here y asked) (last q)) why (begun-anew (noted here y asked) q) (ended_at at)
-        running)
+        inr (at-S1 (since nothing_yet (noted here y asked) (last q)) why (begun-anew (noted here y asked) q)
+        (ended_at at) running)
 
     pub report-finite : report_finite (reported here) ≡ true
     report-finite = (report-fine stands).numbers

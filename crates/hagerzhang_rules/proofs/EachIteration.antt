@@ -32,8 +32,8 @@ use Rattle.hagerzhang_rules.specs.HowFast.{steps_finite}
 use Rattle.hagerzhang_rules.specs.Iterations as words
 use Rattle.hagerzhang_rules.specs.Iterations.{Alone, Iterated, leaves, alone, Plays, not_yet, there, standing}
 use Rattle.hagerzhang_rules.specs.Iterations.{had, point_finite}
-use Rattle.hagerzhang_rules.proofs.Iterations.{Ready, Fine, Stands, ended, Arrives, stays, finishes, none-asked}
-use Rattle.hagerzhang_rules.proofs.StaysBracket.{Frame, Sound, SoundUpdate, reaches, more, on-bracket}
+use Rattle.hagerzhang_rules.proofs.Iterations.{Ready, Fine, Stands, ended, Arrives, finishes, none-asked}
+use Rattle.hagerzhang_rules.proofs.StaysBracket.{Frame, Sound, SoundUpdate, reaches, on-bracket}
 use Rattle.hagerzhang_rules.proofs.StaysBracket.{sound-within, sound-stays, sound-self, updated-sound, x-finite}
 use Rattle.hagerzhang_rules.proofs.HowFast.{fate, closes, widths, Placed, exactly}
 use Rattle.hagerzhang_rules.proofs.Within.{Comes, Goes, one-more-asked, one-more-had, ends, asks, narrows}

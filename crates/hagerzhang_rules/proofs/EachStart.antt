@@ -6,7 +6,7 @@ use mathlib.Core.Bool.{true, ◌&&◌}
 use mathlib.Core.List.{List, [], ◌∷◌}
 use mathlib.Core.Logic.{inl, inr}
 use mathlib.Core.Option.{none}
-use Prim.Native.Nat.{ℕ, zero, suc, ◌+◌, ◌≤◌, ◌<◌}
+use Prim.Native.Nat.{ℕ, zero, suc, ◌+◌, ◌<◌}
 use native.Mathlib.Omega.{arith}
 use lib.ListN.{length}
 use lib.Ieee.{Float, binary64, fits, of_bits}
@@ -43,7 +43,7 @@ use Rattle.hagerzhang_rules.proofs.Apart.{not-both}
 use Rattle.hagerzhang_rules.proofs.Ranges.{Accepted, level-finite, f0-finite, s0-finite, gamma-finite}
 use Rattle.hagerzhang_rules.proofs.Ranges.{gamma-above, start-finite, min-finite, max-finite, min-from-zero}
 use Rattle.hagerzhang_rules.proofs.Ranges.{low-below-high, start-above, start_fits, s0-below, f0-below-level}
-use Rattle.hagerzhang_rules.proofs.Iterations.{Ready, Fine, Stands, Arrives, stays, begins, none-asked}
+use Rattle.hagerzhang_rules.proofs.Iterations.{Ready, Fine, Stands, Arrives, begins, none-asked}
 use Rattle.hagerzhang_rules.proofs.StaysBracket.{low_meets, high_meets, Frame, Low, SoundCame, is-to, is-on}
 use Rattle.hagerzhang_rules.proofs.StaysBracket.{sound-premise, falling, under, more, now}
 use Rattle.hagerzhang_rules.proofs.Within.{Goes, one-more-asked, one-more-had, ends, asks, narrows}
@@ -216,8 +216,8 @@ module _ (o : Options) (f0 s0 : Float) (ok : Accepted o f0 s0) where
     }
 
     -- the next trial, after d was too short
-    later : (asked : List Point) (d : Point) (f g : Float) → Early asked d → point_finite d ≡ true → low_meets L d ≡ true
-        → finite (longer_of d) ≡ true → Early (d ∷ asked) (point (longer_of d) f g)
+    later : (asked : List Point) (d : Point) (f g : Float) → Early asked d → point_finite d ≡ true
+        → low_meets L d ≡ true → finite (longer_of d) ≡ true → Early (d ∷ asked) (point (longer_of d) f g)
     later asked d f g early fd meets fx =
         let fdx = and_first (finite d.x) (finite d.f) (and_first (finite d.x && finite d.f) _ fd) in
         let grows = five-grows d.x early.f64 fdx early.above fx in
@@ -238,8 +238,9 @@ module _ (o : Options) (f0 s0 : Float) (ok : Accepted o f0 s0) where
     -- d was asked behind these, and the step may grow n times more: it was enough, or what is shown of one too short
     judged : (n : ℕ) (asked : List Point) (d : Point) (grown : Grown) (then : Bracket → Rest Report)
         (then' : Bracket → Alone Bracket)
-        → length asked + n ≡ K → standing s nothing_yet asked ≡ none → standing s nothing_yet (d ∷ asked) ≡ came_by grown
-        → Early asked d → point_finite d ≡ true → Tells L low (earlier_of s asked) d grown
+        → length asked + n ≡ K → standing s nothing_yet asked ≡ none
+        → standing s nothing_yet (d ∷ asked) ≡ came_by grown → Early asked d → point_finite d ≡ true
+        → Tells L low (earlier_of s asked) d grown
         → By-itself (d ∷ asked) (growth s inl nothing_yet n d grown then') → Then then then'
         → (low_meets L d ≡ true → standing s nothing_yet (d ∷ asked) ≡ none
         → By-itself (d ∷ asked) (growth s inl nothing_yet n d TooShort then')
@@ -259,7 +260,8 @@ module _ (o : Options) (f0 s0 : Float) (ok : Accepted o f0 s0) where
         → length asked + n ≡ K → standing s nothing_yet asked ≡ none → Early asked d → point_finite d ≡ true
         → By-itself (d ∷ asked) (growth s inl nothing_yet n d (grown_of L low (earlier_of s asked) d) then')
         → Then then then'
-        → Start (d ∷ asked) (growth s (keeping nothing_yet) nothing_yet n d (grown_of L low (earlier_of s asked) d) then)
+        → Start (d ∷ asked)
+        (growth s (keeping nothing_yet) nothing_yet n d (grown_of L low (earlier_of s asked) d) then)
     unfolding growth enough trial
     grows zero asked d then then' count before early fd at go =
         judged zero asked d (grown_of L low (earlier_of s asked) d) then then' count before (stands-so asked d before)
@@ -268,8 +270,8 @@ module _ (o : Options) (f0 s0 : Float) (ok : Accepted o f0 s0) where
         ends s nothing_yet none_yet tt (start_alone s) (start-frame s) (rw most-is (omega arith))
         (words.growths-spent is (answer-fine d fd) stands (omega arith)))
     grows (suc n) asked d then then' count before early fd at go =
-        judged (suc n) asked d (grown_of L low (earlier_of s asked) d) then then' count before (stands-so asked d before)
-        early fd (tells L low (earlier_of s asked) d (level-finite o f0 s0 ok) fd) at go
+        judged (suc n) asked d (grown_of L low (earlier_of s asked) d) then then' count before
+        (stands-so asked d before) early fd (tells L low (earlier_of s asked) d (level-finite o f0 s0 ok) fd) at go
         (λ meets stands at'.
         by_cases (Start (d ∷ asked)) (finite (longer_of d))
         (λ fx.

@@ -19,7 +19,8 @@ use Rattle.hagerzhang_rules.specs.declared.Way.TheVariants.{Bounded, Growing}
 use Rattle.hagerzhang_rules.specs.declared.Options.{Options}
 use Rattle.hagerzhang_rules.specs.declared.Setup.{Setup}
 use Rattle.hagerzhang_rules.specs.Parameters.{setup_of}
-use Rattle.hagerzhang_rules.specs.Rules.{answer_finite, starting, Report, nothing_yet, last, hager_zhang, hager_zhang_by}
+use Rattle.hagerzhang_rules.specs.Rules.{answer_finite, starting, Report, nothing_yet, last, hager_zhang}
+use Rattle.hagerzhang_rules.specs.Rules.{hager_zhang_by}
 use Rattle.hagerzhang_rules.specs.Iterations.{most_in_start, most_in_iteration, Brings, as_before, first}
 use Rattle.hagerzhang_rules.specs.Iterations.{finished-one}
 use Rattle.hagerzhang_rules.proofs.Ranges.{Accepted}

@@ -21,7 +21,7 @@ use Rattle.hagerzhang_rules.specs.declared.Further.TheVariants.{Nothing, At}
 use Rattle.hagerzhang_rules.specs.Rules.{point, bracket, answer_finite, update_of, middle_of, is_between, narrowed_of}
 use Rattle.hagerzhang_rules.specs.Rules.{secant_of, S2, S3, S4, L2, asking, trial, between, U3, updating, update}
 use Rattle.hagerzhang_rules.specs.Rules.{further, after_s4, iteration_by, Report}
-use Rattle.hagerzhang_rules.specs.MarkedSums.{a, b, ab, ½, ¾}
+use Rattle.hagerzhang_rules.specs.MarkedSums.{b, ab, ½, ¾}
 use Rattle.hagerzhang_rules.specs.Closing.{span}
 use Rattle.hagerzhang_rules.specs.Iterations.{Iterated, Alone, leaves, alone, Plays, not_yet, then-asked}
 use Rattle.hagerzhang_rules.specs.Iterations.{point_finite}

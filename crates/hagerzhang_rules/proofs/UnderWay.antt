@@ -1,5 +1,6 @@
 -- What a run has asked in the iteration under way, and how many iterations it has finished, for proofs. (The machine's
--- are `points_asked` and `finished_by`, demands/specs/Runs.antt; demands/proofs/Along.antt says that they are the same.)
+-- are `points_asked` and `finished_by`, demands/specs/Runs.antt; demands/proofs/Along.antt says that they are the
+-- same.)
 use Prim.Native.Nat.{ℕ, ◌+◌}
 use mathlib.Core.Bool.{Bool, cond}
 use mathlib.Core.List.{List, [], ◌∷◌}

@@ -25,7 +25,7 @@ use Rattle.hagerzhang_rules.specs.Iterations as words
 use Rattle.hagerzhang_rules.specs.Iterations.{Alone, Plays, then-asked, here, there, earlier_of, led, standing}
 use Rattle.hagerzhang_rules.specs.Iterations.{had, had_by, InU3, AskedBecause, EndedBecause, inside}
 use Rattle.hagerzhang_rules.proofs.Iterations.{Fine, most_at, Allowed, Asks, awaiting, ended, Arrives, stays}
-use Rattle.hagerzhang_rules.proofs.StaysBracket.{Frame, Sound, SoundCame, is-to, is-on, more, narrowed-sound}
+use Rattle.hagerzhang_rules.proofs.StaysBracket.{Frame, Sound, SoundCame, is-to, is-on, narrowed-sound}
 
 -- ---- a question: an answer that is not finite is refused, and the last
 asking-arrives : {s : Setup} {k : Report} (asked : List Point) (x : Float) (then : Point → Rest Report) → Fine s k

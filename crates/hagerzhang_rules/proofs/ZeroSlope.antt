@@ -15,9 +15,11 @@ use Rattle.floats.proofs.Itself.{difference-of-itself, quotient-of-none}
 use Rattle.floats.proofs.Order.{finite→real, eq→le, eq→ge, lt→nle}
 use Rattle.hagerzhang_rules.specs.Rules.{iteration_by, secant_of, is_near, when, or_else, equal_steps, Giving, S2, S3}
 use Rattle.hagerzhang_rules.specs.Rules.{S4, L2, after_s4, best_of, judge_of, trial, further, starting, Report}
-use Rattle.hagerzhang_rules.specs.Rules.{nothing_yet, report_of, decided, verdict, rounds_by, hager_zhang_by, hager_zhang}
+use Rattle.hagerzhang_rules.specs.Rules.{nothing_yet, report_of, decided, verdict, rounds_by, hager_zhang_by}
+use Rattle.hagerzhang_rules.specs.Rules.{hager_zhang}
 use Rattle.runs.specs.Outcomes.{limit, asks, ends, refusal, step_not_finite, refusal_in}
-use Rattle.runs.specs.Asking.{ask, end, Rest, Ended, end_with, keeping, Reply, shown, respond, outcomes, after, reported}
+use Rattle.runs.specs.Asking.{ask, end, Rest, Ended, end_with, keeping, Reply, shown, respond, outcomes, after}
+use Rattle.runs.specs.Asking.{reported}
 use Rattle.runs.specs.Asking.{awaits}
 use Rattle.hagerzhang_rules.specs.declared.Point.{Point}
 use Rattle.hagerzhang_rules.specs.declared.Bracket.{Bracket}

@@ -14,7 +14,7 @@ use Rattle.hagerzhang_rules.specs.declared.Further.TheVariants.{Nothing, At}
 use Rattle.hagerzhang_rules.specs.declared.Came.TheVariants.{To}
 use Rattle.hagerzhang_rules.specs.Rules.{point, bracket, answer_finite, update_of, secant_of, equal_steps, S4, L2}
 use Rattle.hagerzhang_rules.specs.Rules.{iteration_by}
-use Rattle.hagerzhang_rules.specs.MarkedSums.{setup, a, b, Asks, refused, by_number, becomes, left, at-minimum}
+use Rattle.hagerzhang_rules.specs.MarkedSums.{setup, a, Asks, refused, by_number, becomes, left, at-minimum}
 use Rattle.hagerzhang_rules.specs.ZeroSlope.{former_s4}
 
 -- L = 1 and gamma = 0.66, as in 01's sums

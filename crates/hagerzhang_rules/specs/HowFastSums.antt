@@ -16,7 +16,7 @@ use Rattle.hagerzhang_rules.specs.declared.Options.{Options}
 use Rattle.hagerzhang_rules.specs.declared.Setup.{Setup}
 use Rattle.hagerzhang_rules.specs.Parameters.{bounds, default_options, start_rows, setup_of}
 use Rattle.hagerzhang_rules.specs.Rules.{point, bracket, Report}
-use Rattle.hagerzhang_rules.specs.MarkedSums.{a, b, ab, ½, ¾}
+use Rattle.hagerzhang_rules.specs.MarkedSums.{b, ab, ½, ¾}
 use Rattle.hagerzhang_rules.specs.Closing.{m, width, span, too_wide, m_inside, Halved}
 use Rattle.hagerzhang_rules.specs.Iterations.{leaves, alone, Plays}
 

@@ -4,7 +4,6 @@ use lib.Ieee.{ne}
 use Rattle.floats.proofs.Branches.{if_yes, if_no, and-by-call}
 use Rattle.hagerzhang_rules.specs.declared.Further.TheVariants.{At}
 use Rattle.hagerzhang_rules.specs.Rules.{S2}
-use borrow.Author.Rules.{rules}
 use Rattle.hagerzhang_decisions.proofs.bracketing.s2.Goals as goal
 
 pub returns-then-is_near-w : goal.returns-then-is_near-w

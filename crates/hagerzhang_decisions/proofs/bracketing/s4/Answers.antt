@@ -1,7 +1,6 @@
 -- `hagerzhang_decisions::bracketing::s4` meets its contract. Assumes nothing.
 use mathlib.Core.Path.{ap₂, ◌∙◌}
 use Rattle.hagerzhang_rules.specs.Rules.{or_else}
-use borrow.Author.Rules.{rules}
 use Rattle.hagerzhang_decisions.proofs.bracketing.s4.Goals as goal
 
 pub returns : goal.returns

@@ -1,7 +1,6 @@
 -- `hagerzhang_decisions::verdicts::judge` meets its contract. Assumes nothing.
 use Rattle.floats.proofs.Branches.{tests}
 use Rattle.hagerzhang_rules.specs.Rules.{judge_of}
-use borrow.Author.Rules.{rules}
 use Rattle.hagerzhang_decisions.proofs.verdicts.judge.Goals as goal
 
 pub returns-then-wolfe_holds : goal.returns-then-wolfe_holds
