@@ -1,9 +1,5 @@
 -- `jobs::begun_by` meets its contract. Assumes nothing.
-use mathlib.Core.Path.{◌≡◌, ◌∙◌, sym, ap}
-use mathlib.Core.Bool.{true}
-use borrow.Author.Rules.{rules}
-use borrow.Author.Tests.{not-true, not-false}
-use Rattle.hagerzhang_rules.specs.Parameters.{options_finite}
+use mathlib.Core.Path.{◌∙◌, sym, ap}
 use Rattle.curves.specs.Told.{curve_told}
 use Rattle.jobs.proofs.Refusals.{not_finite, found-curve, unknown-curve}
 use Rattle.jobs.proofs.begun_by.Goals as goal

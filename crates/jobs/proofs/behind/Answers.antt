@@ -3,7 +3,6 @@ use mathlib.Core.Path.{sym, ap, ◌∙◌}
 use Prim.Native.Nat.{ℕ, ◌+◌}
 use native.Mathlib.Omega.{arith}
 use lib.ListN.{length, drop, length-drop}
-use borrow.Author.Rules.{rules}
 use Rattle.fields.specs.Fields.{end_of}
 use Rattle.jobs.proofs.Parts.{past, stays}
 use Rattle.jobs.proofs.behind.Goals as goal
@@ -17,8 +16,8 @@ returns-then-stands c =
     record {
       upper_bound = omega (arith, ap length part, length-drop p.0 job);
       job_value =
-        ap (λ (i : ℕ). drop (p.0 + i) job) (e.value ∙ ap end_of part)
-        ∙ past job p.0 p.1 p.2 (sym c.stands.ensures ∙ c.if-stands.true);
+          ap (λ (i : ℕ). drop (p.0 + i) job) (e.value ∙ ap end_of part)
+          ∙ past job p.0 p.1 p.2 (sym c.stands.ensures ∙ c.if-stands.true);
     }
 
 pub returns : goal.returns

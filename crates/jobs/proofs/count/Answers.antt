@@ -1,12 +1,7 @@
 -- `jobs::count` meets its contract: the body is a part of the job. Assumes nothing.
-use mathlib.Core.Path.{◌≡◌, ◌∙◌, sym}
-use mathlib.Core.Bool.{true}
-use Prim.Native.Nat.{◌+◌, ◌≤◌}
+use mathlib.Core.Path.{◌∙◌, sym}
 use native.Mathlib.Omega.{arith}
-use lib.ListN.{length, drop}
-use borrow.Author.Rules.{rules}
 use Rattle.wire.specs.Wire.{pair_of}
-use Rattle.jobs.specs.Reader.{stands}
 use Rattle.jobs.proofs.Parts.{within, count-there, absent}
 use Rattle.jobs.proofs.count.Goals as goal
 
@@ -34,5 +29,4 @@ returns-then-stands c =
 pub returns : goal.returns
 returns c =
     let a = c.args in
-    absent a.job.now a.p.0 a.p.1 a.p.2 pair_of a.other
-    (sym c.stands.ensures ∙ c.if-stands.false)
+    absent a.job.now a.p.0 a.p.1 a.p.2 pair_of a.other (sym c.stands.ensures ∙ c.if-stands.false)

@@ -1,11 +1,6 @@
 -- `jobs::number` meets its contract. Assumes nothing.
-use mathlib.Core.Path.{◌≡◌, ◌∙◌, sym}
-use mathlib.Core.Bool.{true}
-use native.Mathlib.Omega.{arith}
-use lib.ListN.{drop}
-use borrow.Author.Rules.{rules}
+use mathlib.Core.Path.{◌∙◌, sym}
 use Rattle.wire.specs.Wire.{float_of}
-use Rattle.jobs.specs.Reader.{stands}
 use Rattle.jobs.proofs.Parts.{present, absent}
 use Rattle.jobs.proofs.number.Goals as goal
 
@@ -18,8 +13,4 @@ returns-then-stands c =
 pub returns : goal.returns
 returns c =
     let a = c.args in
-    absent a.job.now a.p.0 a.p.1 a.p.2 float_of a.other
-    (sym c.stands.ensures ∙ c.if-stands.false)
-
-pub float-requires : goal.float-requires
-float-requires c = (omega arith, sym c.stands.ensures ∙ c.if-stands.true)
+    absent a.job.now a.p.0 a.p.1 a.p.2 float_of a.other (sym c.stands.ensures ∙ c.if-stands.false)

@@ -1,5 +1,4 @@
 -- `jobs::options` meets its contract. Assumes nothing.
-use borrow.Author.Rules.{rules}
 use Rattle.jobs.specs.Format.{options_of}
 use Rattle.jobs.proofs.options.Goals as goal
 

@@ -1,7 +1,6 @@
 -- `jobs::over_curve` meets its contract. Assumes nothing.
 use mathlib.Core.Path.{◌≡◌, sym, ap, ◌∙◌}
 use lib.Ieee.{Float}
-use borrow.Author.Rules.{rules}
 use Rattle.floats.specs.Arithmetic.{0ᶠ}
 use Rattle.hagerzhang_rules.specs.declared.Options.{Options}
 use Rattle.hagerzhang_rules.specs.Parameters.{setup_of, start_rows}
@@ -26,12 +25,10 @@ pub returns-in-Began : goal.returns-in-Began
 unfolding on
 returns-in-Began c =
     let a = c.args in
-    beside a.c a.o _ _ _ _ c.value.ensures c.slope.ensures c.start.ensures.exact
-    c.in-Began.is
+    beside a.c a.o _ _ _ _ c.value.ensures c.slope.ensures c.start.ensures.exact c.in-Began.is
 
 pub returns-in-NoSearch : goal.returns-in-NoSearch
 unfolding on
 returns-in-NoSearch c =
     let a = c.args in
-    beside a.c a.o _ _ _ _ c.value.ensures c.slope.ensures c.start.ensures.exact
-    c.in-NoSearch.is
+    beside a.c a.o _ _ _ _ c.value.ensures c.slope.ensures c.start.ensures.exact c.in-NoSearch.is

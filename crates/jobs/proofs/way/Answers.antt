@@ -1,11 +1,6 @@
 -- `jobs::way` meets its contract. Assumes nothing.
-use mathlib.Core.Path.{◌≡◌, ◌∙◌, sym}
-use mathlib.Core.Bool.{true}
-use native.Mathlib.Omega.{arith}
-use lib.ListN.{drop}
-use borrow.Author.Rules.{rules}
+use mathlib.Core.Path.{◌∙◌, sym}
 use Rattle.jobs.specs.Format.{way_in}
-use Rattle.jobs.specs.Reader.{stands}
 use Rattle.jobs.proofs.Parts.{present, absent}
 use Rattle.jobs.proofs.way.Goals as goal
 
@@ -19,9 +14,3 @@ pub returns : goal.returns
 returns c =
     let a = c.args in
     absent a.job.now a.at 2 16 way_in a.other (sym c.stands.ensures ∙ c.if-stands.false)
-
-pub float-requires : goal.float-requires
-float-requires c = (omega arith, sym c.stands.ensures ∙ c.if-stands.true)
-
-pub float-requires-then-stands : goal.float-requires-then-stands
-float-requires-then-stands c = (omega arith, sym c.stands.ensures ∙ c.if-stands.true)
