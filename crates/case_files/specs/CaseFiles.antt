@@ -1,5 +1,5 @@
--- The fields of a case file, by docs/FORMATS.md, "A case file". `read_of` takes the bytes from where a field begins: all
--- that are left, or so many that they decide on it (proofs/Window.antt).
+-- The fields of a case file, by docs/FORMATS.md, "A case file". `read_of` takes the bytes from where a field begins:
+-- all that are left, or so many that they decide on it (proofs/Window.antt).
 use Rattle.std.specs.Prelude.{ℕ, ◌+◌, ◌*◌, ◌≤◌, Bool, false, cond, ◌&&◌, List, leb, eqb, length, drop}
 use Rattle.wire.specs.Wire.{byte_at, pair_of}
 use Rattle.fields.specs.declared.Heading.{Heading}

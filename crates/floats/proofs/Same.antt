@@ -106,7 +106,8 @@ same f (fin s (suc m) e) (fin t (suc n) d) F G h z =
     λ i. fin (g i) (r.0 i) (r.1 i)
 
 -- x == y says that x and y are the same data, where x is no zero
-pub eq→same : (x y : Float) → fits binary64 x ≡ true → fits binary64 y ≡ true → is_zero x ≡ false → eq x y ≡ true → x ≡ y
+pub eq→same : (x y : Float) → fits binary64 x ≡ true → fits binary64 y ≡ true → is_zero x ≡ false → eq x y ≡ true
+    → x ≡ y
 eq→same x y F G z h = same binary64 x y (yes F) (yes G) (yes h) z
 
 pub antisym : (x y : Float) → fits binary64 x ≡ true → fits binary64 y ≡ true → is_zero x ≡ false

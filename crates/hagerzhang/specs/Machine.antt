@@ -1,6 +1,6 @@
 -- The machine's own bookkeeping, which the contracts cite. The demands name what the functions give by it (`start_of`,
--- `answer_of`, `held_of`, `awaited_of`), and nobody needs to read how. specs/Meaning.antt says what a state stands for in
--- 01's rules, proofs/Bridge.antt that every step is the rules' step, and demands/proofs/Along.antt the same for any
+-- `answer_of`, `held_of`, `awaited_of`), and nobody needs to read how. specs/Meaning.antt says what a state stands for
+-- in 01's rules, proofs/Bridge.antt that every step is the rules' step, and demands/proofs/Along.antt the same for any
 -- list of answers.
 use Rattle.std.specs.Prelude.{◌≡◌, cond, Float}
 use Rattle.refusals.specs.Results.{Result, value, refused, refuse◌else◌}

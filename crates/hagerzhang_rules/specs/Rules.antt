@@ -12,7 +12,8 @@ use Rattle.std.specs.Float.Ieee.{of_bits}
 use Rattle.std.specs.Float.Ieee.Scale.{finite}
 use Rattle.floats.specs.Arithmetic.{◌⊕◌, ◌⊖◌, ◌⊗◌, ◌⊘◌, ◌<ᶠ◌, ◌≤ᶠ◌, ◌>ᶠ◌, ◌≥ᶠ◌, ◌=ᶠ◌, 0ᶠ, 1ᶠ, 2ᶠ, 5ᶠ}
 use Rattle.numbers.specs.Numbers.{abs_of}
-use Rattle.runs.specs.Outcomes.{verdict_word, stop, limit, Why, step_not_finite, budget_spent, step_not_between, growths_spent}
+use Rattle.runs.specs.Outcomes.{verdict_word, stop, limit, Why, step_not_finite, budget_spent, step_not_between}
+use Rattle.runs.specs.Outcomes.{growths_spent}
 use Rattle.runs.specs.Outcomes.{unreachable}
 use Rattle.runs.specs.Asking.{Run, end, Rest, end_with, keeping, question}
 use Rattle.runs.specs.declared.Verdict.TheVariants.{Wolfe, Approximate}

@@ -1,6 +1,6 @@
 -- 02, request 5: the exponent bits decide whether a float is finite (`by-exponent-bits`). 01, "Absolute value clears
--- the sign bit", as a fact of the 64 bits (`abs-clears`). What a float's comparison with itself says. The patterns above
--- that of the infinity are the NaN's (`nan_above`). Assumes nothing.
+-- the sign bit", as a fact of the 64 bits (`abs-clears`). What a float's comparison with itself says. The patterns
+-- above that of the infinity are the NaN's (`nan_above`). Assumes nothing.
 use mathlib.Core.Path.{◌≡◌, refl, sym, ap, ◌∙◌, subst}
 use Prim.Native.Nat.{ℕ, zero, suc, ◌+◌, ◌/◌, ◌%◌, ◌<◌}
 use native.Mathlib.Nat.{mod-lt, mod-mod, mod-mod_of_dvd, dvd-mul_right, div-lt_iff_lt-mul}

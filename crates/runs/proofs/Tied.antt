@@ -117,7 +117,8 @@ module _ {S K : Type 0} {m : Machine S} (t : Tied m K) where
   tells-on : (s : S) (r : Rest K) → Stands s r → (ys : List Reply) → played m s ys ≡ outcomes r ys
   unfolding played outcomes
   tells-on s r w [] = refl
-  tells-on s r w (y ∷ ys) = ap₂ ◌∷◌ (says s r w y.0 y.1) (tells-on (m.next s y.0 y.1) (respond r y.0 y.1) (goes s r w y.0 y.1) ys)
+  tells-on s r w (y ∷ ys) =
+      ap₂ ◌∷◌ (says s r w y.0 y.1) (tells-on (m.next s y.0 y.1) (respond r y.0 y.1) (goes s r w y.0 y.1) ys)
 
   -- the answers that pass a test while the machine asks are those that pass it while the rules ask
   module _ (test : Float → Float → Bool) where
