@@ -3,7 +3,6 @@
 use mathlib.Core.Path.{ap}
 use lib.Ieee.{binary64, of_int}
 use mir.Facts.{to_z-of_z}
-use borrow.Author.Rules.{rules}
 use Rattle.curves.specs.Curves.{table}
 use Rattle.curves.proofs.Table.{coefficient-fits}
 use Rattle.curves.proofs.entry.Goals as goal
