@@ -6,7 +6,6 @@ use Rattle.runs.specs.declared.Iterations.{Iterations}
 use Rattle.runs.specs.declared.Outcome.TheVariants.{Stop, Limit, Refused}
 use Rattle.refusals.specs.declared.Refusal.{Refusal}
 use Rattle.refusals.specs.declared.Refusal.TheVariants.{StepNotFinite, BudgetSpent, StepNotBetween}
-use Rattle.runs.specs.Counters.{iterations}
 use Rattle.hagerzhang_rules.specs.declared.Point.{Point}
 use Rattle.hagerzhang_rules.specs.declared.Bracket.{Bracket}
 use Rattle.hagerzhang_rules.specs.declared.Setup.{Setup}
@@ -26,7 +25,7 @@ use Rattle.hagerzhang_steps.specs.declared.moves.Probed.TheVariants.{Passes, Bar
 use Rattle.hagerzhang_steps.specs.declared.moves.Tested.{Tested}
 use Rattle.hagerzhang_steps.specs.declared.moves.Tested.TheVariants.{Asks, Narrows, Stops}
 use Rattle.hagerzhang_steps.specs.declared.state.Next.{Next}
-use Rattle.hagerzhang_rules.specs.Rules.{bracket, middle_of, secant_of, best_of, judge_of}
+use Rattle.hagerzhang_rules.specs.Rules.{middle_of, secant_of, best_of, judge_of}
 use Rattle.hagerzhang_steps.specs.State.{narrowing, asks_of, ended_of}
 
 abbrev pub tries_of : Bracket → Rule → Float → Move

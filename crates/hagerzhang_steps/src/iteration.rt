@@ -24,6 +24,7 @@ pub enum Then {
     Close(Bracket),
 }
 
+#[tactic(auto, unfolding(crate::specs::Iteration::went_of))]
 pub(crate) fn running(s: Setup, last: Finished, t: Trial, asked: Asked, f: f64, g: f64) -> Next
     ensures { result ≡ running_of s last t asked f g }
 {
@@ -41,6 +42,7 @@ pub(crate) fn running(s: Setup, last: Finished, t: Trial, asked: Asked, f: f64, 
 }
 
 // (1) What the answer comes to.
+#[tactic(auto, unfolding(crate::specs::Iteration::comes_of))]
 fn comes(level: f64, t: Trial, asked: Asked, f: f64, g: f64) -> Came
     ensures { result ≡ comes_of level t asked f g }
 {
@@ -51,6 +53,7 @@ fn comes(level: f64, t: Trial, asked: Asked, f: f64, g: f64) -> Came
 }
 
 // How many answers of U3 may still come.
+#[tactic(auto, unfolding(crate::specs::Iteration::left_of))]
 fn left(budget: u32, asked: Asked) -> u32
     ensures { result ≡ left_of budget asked }
 {
@@ -61,6 +64,7 @@ fn left(budget: u32, asked: Asked) -> u32
 }
 
 // (2) What follows in the iteration.
+#[tactic(auto, unfolding(crate::specs::Iteration::onward_of))]
 fn onward(gamma: f64, w: Bracket, t: Trial, left: u32, came: Came) -> Then
     ensures { result ≡ onward_of gamma w t left came }
 {
@@ -71,6 +75,7 @@ fn onward(gamma: f64, w: Bracket, t: Trial, left: u32, came: Came) -> Then
 }
 
 // What follows the update of a trial.
+#[tactic(auto, unfolding(crate::specs::Iteration::follow_by))]
 fn follow(gamma: f64, w: Bracket, t: Trial, u: Bracket) -> Then
     ensures { result ≡ follow_of gamma w t u }
 {
@@ -83,6 +88,7 @@ fn follow(gamma: f64, w: Bracket, t: Trial, u: Bracket) -> Then
 }
 
 // After S1: S2 and S3 give S4 its step, the latter overwriting the former.
+#[tactic(auto, unfolding(crate::specs::Iteration::tried_by))]
 fn after_s1(gamma: f64, w: Bracket, c: f64, u: Bracket) -> Then
     ensures { result ≡ after_s1_of gamma w c u }
 {
@@ -93,6 +99,7 @@ fn after_s1(gamma: f64, w: Bracket, c: f64, u: Bracket) -> Then
 }
 
 // After S1 to S4: L2, or the end.
+#[tactic(auto, unfolding(crate::specs::Iteration::tried_by))]
 fn after_s4(gamma: f64, w: Bracket, v: Bracket) -> Then
     ensures { result ≡ after_s4_of gamma w v }
 {

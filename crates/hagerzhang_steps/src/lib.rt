@@ -27,6 +27,7 @@ pub use state::{
 };
 
 // A finite answer: what the search waits for behind it, or how it ended.
+#[tactic(auto, unfolding(crate::specs::Steps::react_of))]
 pub fn react(s: Setup, waiting: Waiting, f: f64, g: f64) -> Next
     ensures { result ≡ react_of s waiting f g }
 {
@@ -37,6 +38,7 @@ pub fn react(s: Setup, waiting: Waiting, f: f64, g: f64) -> Next
 }
 
 // What an answer of the start leads to. A search that ends in its start keeps nothing.
+#[tactic(auto, unfolding(crate::specs::Steps::starts_of))]
 fn starts(s: Setup, o: Opened) -> Next
     ensures { result ≡ starts_of s o }
 {

@@ -44,6 +44,7 @@ pub(crate) fn settled(s: Setup, bracket: Bracket, c: Point, iterations: Iteratio
 }
 
 // The verdict, then the limit, and only then S1 of the next iteration.
+#[tactic(auto, unfolding(crate::specs::Moves::outlook_by))]
 fn outlook(s: Setup, last: Finished) -> Move
     ensures { result ≡ outlook_of s last }
 {
@@ -74,6 +75,7 @@ pub enum Tested {
 }
 
 // (4) What is due is tested: 5; 6, 5, 7.
+#[tactic(auto, unfolding(crate::specs::Moves::test_of))]
 fn test(theta: f64, best: f64, m: Move) -> Tested
     ensures { result ≡ test_of theta best m }
 {
@@ -86,6 +88,7 @@ fn test(theta: f64, best: f64, m: Move) -> Tested
 }
 
 // A trial is asked where its step is finite (5).
+#[tactic(auto, unfolding(crate::specs::Moves::attempt_of))]
 fn attempt(u: Bracket, t: Trial) -> Tested
     ensures { result ≡ attempt_of u t }
 {
@@ -96,6 +99,7 @@ fn attempt(u: Bracket, t: Trial) -> Tested
 }
 
 // U3's next step is asked, where it passes.
+#[tactic(auto, unfolding(crate::specs::Moves::narrow_by))]
 fn narrow(theta: f64, t: Trial, h: Point, k: f64, left: u32) -> Tested
     ensures { result ≡ narrow_of theta t h k left }
 {
@@ -113,6 +117,7 @@ pub enum Probed {
 }
 
 // U3's next step is asked where an answer may still come (6) and it is finite (5) and strictly between the ends (7).
+#[tactic(auto, unfolding(crate::specs::Moves::probe_of))]
 pub(crate) fn probe(theta: f64, h: Point, k: f64, left: u32) -> Probed
     ensures { result ≡ probe_of theta h k left }
 {
@@ -137,6 +142,7 @@ fn refused(r: Refusal) -> Tested
 }
 
 // (5) The next state, and what is said. An end keeps what the last finished iteration left.
+#[tactic(auto, unfolding(crate::specs::Moves::made_by))]
 pub(crate) fn made(theta: f64, last: Finished, m: Move) -> Next
     ensures { result ≡ made_of theta last m }
 {

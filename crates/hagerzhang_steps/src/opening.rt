@@ -32,6 +32,7 @@ fn zero(s: Setup) -> Point
 }
 
 // What is asked first.
+#[tactic(auto, unfolding(crate::specs::Opening::first_by))]
 pub fn first(s: Setup) -> Opening
     ensures { result ≡ first_of s }
 {
@@ -48,6 +49,7 @@ pub fn first(s: Setup) -> Opening
 }
 
 // A finite answer in the start.
+#[tactic(auto, unfolding(crate::specs::Opening::opens_of))]
 pub(crate) fn opens(s: Setup, w: Opening, f: f64, g: f64) -> Opened
     ensures { result ≡ opens_of s w f g }
 {
@@ -74,6 +76,7 @@ pub(crate) fn opens(s: Setup, w: Opening, f: f64, g: f64) -> Opened
 }
 
 // The trial t is answered. "The best's c is the first trial."
+#[tactic(auto, unfolding(crate::specs::Opening::grew_by))]
 fn grew(s: Setup, w: Growth, c: Point, t: Point) -> Opened
     ensures { result ≡ grew_of s w c t }
 {
@@ -84,6 +87,7 @@ fn grew(s: Setup, w: Growth, c: Point, t: Point) -> Opened
 }
 
 // A longer step is asked where it may still grow (11) and the step is finite (5).
+#[tactic(auto, unfolding(crate::specs::Opening::stretch_of))]
 fn stretch(c: Point, t: Point, left: u32) -> Opened
     ensures { result ≡ stretch_of c t left }
 {
@@ -109,6 +113,7 @@ fn stretch(c: Point, t: Point, left: u32) -> Opened
 }
 
 // A bracket is come to, or U3 goes on while `left` answers may come.
+#[tactic(auto, unfolding(crate::specs::Opening::arrived_of))]
 fn arrived(theta: f64, c: Point, left: u32, came: Came) -> Opened
     ensures { result ≡ arrived_of theta c left came }
 {
@@ -119,6 +124,7 @@ fn arrived(theta: f64, c: Point, left: u32, came: Came) -> Opened
 }
 
 // U3's next step is asked, where it passes.
+#[tactic(auto, unfolding(crate::specs::Opening::inside_of))]
 fn inside(c: Point, p: Probed) -> Opened
     ensures { result ≡ inside_of c p }
 {

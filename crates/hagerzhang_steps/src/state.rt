@@ -27,6 +27,7 @@ pub enum Kept {
 
 impl Kept {
     // The finished iterations.
+    #[tactic(auto, unfolding(crate::specs::Reports::kept_report))]
     pub fn iterations(self) -> Iterations
         ensures { result ≡ iterations (iterations_in (kept_report self)) }
     {
