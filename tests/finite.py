@@ -8,7 +8,8 @@ CASES is bin/cases where none is given. It is given dots of vectors with each ex
 at the middle of the mantissas; what must be printed comes from the model. The model is asked with three wrong tests
 too, and each must show: the mantissa's bits looked at, the sign bit not masked, 7FF taken too.
 
-Then the test is compiled by itself, and its machine code must have no float operation. --code prints that code: of the
+Then the test is compiled by itself. Of a pattern its machine code must have no float operation. Of a float it has one,
+the comparison with itself, without which a NaN has no bits, and must have no other. --code prints that code: of the
 test on a float, of the test on a pattern, and of the former body, which compared with the infinities.
 """
 # first, since it says where Python is too old for the rest
@@ -121,18 +122,21 @@ INSTRUCTIONS = [
     (rb"[\x48-\x4f]\x39[\xc0-\xff]", two("cmp")),
     (rb"[\x48-\x4f]\x85[\xc0-\xff]", two("test")),
     (rb"[\x48\x49]\xf7[\xd0-\xd7]", lambda b: "not %s" % REGISTERS[(b[0] & 1) << 3 | b[-1] & 7]),
-    (rb"\x0f[\x90-\x9f]\xc0", lambda b: "set%s al" % CONDITIONS[b[1] & 15]),
+    (rb"\x0f[\x90-\x9f][\xc0\xc1]", lambda b: "set%s %s" % (CONDITIONS[b[1] & 15], ("al", "cl")[b[2] & 1])),
+    (rb"\x20\xc8", lambda b: "and al, cl"),
     (rb"\xc3", lambda b: "ret"),
 ]
+# x == x
+COMPARED = [(rb"\x66\x0f\x2e\xc0", lambda b: "ucomisd xmm0, xmm0")]
 # ucomisd, comisd, andpd and subsd of xmm0 with itself, cmpunordsd, and the x87's fucomip
 ON_FLOATS = ["660f2ec0", "660f2fc0", "660f54c0", "f20f5cc0", "f20fc2c003", "dfe9"]
 
 
-def instructions(name, code):
+def instructions(name, code, known=INSTRUCTIONS):
     """What the bytes do, a line each. Breaks off where one is not known."""
     lines, at = [], 0
     while at < len(code):
-        for pattern, text in INSTRUCTIONS:
+        for pattern, text in known:
             found = re.compile(pattern, re.DOTALL).match(code, at)
             if found:
                 lines.append(text(found.group()))
@@ -188,8 +192,13 @@ def compiled():
 def machine_code():
     knows_none_on_floats()
     code = compiled()
-    counts = [len(instructions(name, code[name])) for name in ("is_finite", "finite_bits")]
-    print("finite: compiled, is_finite has %d instructions and finite_bits %d, none on floats" % tuple(counts))
+    on_bits = instructions("finite_bits", code["finite_bits"])
+    on_float = instructions("is_finite", code["is_finite"], INSTRUCTIONS + COMPARED)
+    compares = on_float.count(COMPARED[0][1](b""))
+    if compares > 1:
+        raise Wrong("is_finite compares %d times" % compares)
+    print("finite: compiled, finite_bits has %d instructions, none on floats; is_finite %d, of which it compares x with"
+          " itself in %d, and none other on floats" % (len(on_bits), len(on_float), compares))
 
 
 def main(given):
@@ -198,7 +207,11 @@ def main(given):
         sys.exit("usage: finite.py [CASES] | --code")
     if named:
         for name, code in compiled().items():
-            print("\n    ".join([name] + instructions(name, code)))
+            try:
+                lines = instructions(name, code, INSTRUCTIONS + COMPARED)
+            except Wrong:
+                lines = ["with operations on floats: " + code.hex()]
+            print("\n    ".join([name] + lines))
         return
     exponents(*programs(rest, "cases"))
     if shutil.which("rt"):

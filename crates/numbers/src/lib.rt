@@ -18,7 +18,7 @@ pub fn finite_bits(w: u64) -> bool
 }
 
 // Whether x is neither a NaN nor an infinity. A NaN, which alone differs from itself, has no bits for `f64::to_bits`.
-// Compiled, the comparison is gone (docs/DECISIONS.md, "Numbers and vectors").
+// Compiled, that comparison is the one operation on floats (docs/DECISIONS.md, "Numbers and vectors").
 pub fn is_finite(x: f64) -> bool
     ensures { result ≡ finite x }
 {
