@@ -42,7 +42,8 @@ module _ (f : Field) (b : ℕ) (one : f.body ≡ b ∷ []) (rest : List ℕ) (jo
     back : drop 4 (written f ++ rest) ≡ rest
     back = rw one
 
-    gets-bounds : eqb (byte_at rest 0) 2 ≡ false → kept_of (written f ++ rest) ≡ written f ++ (written old_bounds ++ rest)
+    gets-bounds : eqb (byte_at rest 0) 2 ≡ false
+        → kept_of (written f ++ rest) ≡ written f ++ (written old_bounds ++ rest)
     unfolding kept_of relies
     gets-bounds far =
         rw (job, next-byte, far)

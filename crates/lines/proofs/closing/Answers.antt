@@ -1,5 +1,4 @@
 -- `lines::closing` meets its contract: what the search holds is what the rules report. Assumes nothing.
-use borrow.Author.Rules.{rules}
 use Rattle.hagerzhang_steps.specs.Reports.{kept_report}
 use Rattle.lines.proofs.closing.Goals as goal
 

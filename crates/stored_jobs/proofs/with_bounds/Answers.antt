@@ -3,7 +3,6 @@ use mathlib.Core.Path.{◌≡◌, sym, ◌∙◌}
 use mathlib.Core.Bool.{true}
 use native.Mathlib.Omega.{arith}
 use lib.Seq.{length-take-le}
-use borrow.Author.Rules.{rules}
 use Rattle.text.proofs.Writing.{then}
 use Rattle.stored_jobs.specs.Kept.{relies, kept_of}
 use Rattle.stored_jobs.proofs.Kept.{four_bytes}
