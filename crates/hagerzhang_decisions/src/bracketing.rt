@@ -11,6 +11,7 @@ use hagerzhang_rules::{Bracket, Came, EPS, Further, Point};
 // U2: "c.g < 0, c.f <= L: (c, b)." U3: "c.g < 0, c.f > L: ends h = a, k = c.x", and goes on. That c.g < 0 and c.f > L
 // is not tested again: a search comes here with finite numbers, and where the tests before fail these hold (`decides`,
 // proofs/Decides.antt).
+#[tactic(auto, unfolding(crate::specs::Decisions::updated_of))]
 pub fn updated(level: f64, w: Bracket, c: Point) -> Came
     ensures { result ≡ updated_of level w c }
 {
@@ -36,6 +37,7 @@ pub fn middle(theta: f64, h: Point, k: f64) -> f64
 }
 
 // 01, U3 by its answer: "If d.g >= 0: (h, d). Else if d.f <= L: h = d. Else k = d.x. Repeat."
+#[tactic(auto, unfolding(hagerzhang_rules::specs::Rules::narrowed_of))]
 pub fn narrowed(level: f64, h: Point, k: f64, d: Point) -> Came
     ensures { result ≡ narrowed_of level h k d }
 {
@@ -105,6 +107,7 @@ pub fn s4(w: Bracket, c: f64, u: Bracket) -> Further
 }
 
 // "L2: if Z.x - A.x > gamma*(b.x - a.x), ask (A.x + Z.x)/2 and update."
+#[tactic(auto, unfolding(hagerzhang_rules::specs::Rules::L2))]
 pub fn l2(gamma: f64, w: Bracket, u: Bracket) -> Further
     ensures { result ≡ L2 gamma w u }
 {

@@ -7,6 +7,7 @@ use hagerzhang_rules::{Bracket, Came, Grown, Point};
 
 // "If the trial's slope >= 0, the bracket runs from the last earlier trial (or 0) to it. If its slope < 0 and its cost
 // > L, run U3 from 0 to it." `low` is the point at 0.
+#[tactic(auto, unfolding(hagerzhang_rules::specs::Rules::grown_of))]
 pub fn grown(level: f64, low: Point, earlier: Point, t: Point) -> Grown
     ensures { result ≡ grown_of level low earlier t }
 {

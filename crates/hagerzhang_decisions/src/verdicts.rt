@@ -9,6 +9,7 @@ use runs::Verdict;
 // 01: "Best: if a.f <= b.f and a.f <= c.f take a; then b by the same test, overriding; then c, overriding." What comes
 // last is tested first. Where neither c nor b is taken it is a, with no third test: of finite costs one of the three is
 // lowest (`best-is-one`, hagerzhang_rules/proofs/Best.antt).
+#[tactic(auto, unfolding(hagerzhang_rules::specs::Rules::best_over))]
 pub fn best(a: Point, b: Point, c: Point) -> Point
     ensures { result ≡ best_of a b c }
 {
@@ -38,6 +39,7 @@ fn approximate_holds(s: Setup, p: Point) -> bool
 }
 
 // 01: "Verdict, first that holds", of the best.
+#[tactic(auto, unfolding(hagerzhang_rules::specs::Rules::judge_of))]
 pub fn judge(s: Setup, p: Point) -> Judged
     ensures { result ≡ judge_of s p }
 {
