@@ -15,9 +15,9 @@ use Rattle.hagerzhang_rules.specs.declared.Point.{Point}
 use Rattle.hagerzhang_rules.specs.declared.Bracket.{Bracket}
 use Rattle.hagerzhang_rules.specs.declared.Way.TheVariants.{Bounded}
 use Rattle.hagerzhang_rules.specs.Parameters.{bounds, default_options, options_with}
-use Rattle.hagerzhang_rules.specs.Rules.{point, bracket, answer_finite, Report, nothing_yet, iterations_in, best_over, judge_of}
-use Rattle.hagerzhang_rules.specs.Rules.{decided, verdict, rounds, rounds_by, ask_start, ask_high, starting, hager_zhang}
-use Rattle.hagerzhang_rules.specs.Rules.{hager_zhang_by}
+use Rattle.hagerzhang_rules.specs.Rules.{point, bracket, answer_finite, Report, nothing_yet, iterations_in, best_over}
+use Rattle.hagerzhang_rules.specs.Rules.{judge_of, decided, verdict, rounds, rounds_by, ask_start, ask_high, starting}
+use Rattle.hagerzhang_rules.specs.Rules.{hager_zhang, hager_zhang_by}
 use Rattle.curves.specs.declared.Curve.{Curve}
 use Rattle.curves.specs.Curves.{table, value_of, slope_of}
 use Rattle.text.specs.Text.{bytes}

@@ -65,4 +65,5 @@ module _ (c : Curve) where
       → b ≡ write a (said_line (said_of t)) → ahead (n - 1) q b ≡ ahead n p a
   unfolding text_of
   turn-ahead n p q t a b h e f w =
-      rw (e, f, said-first n t h) (then a (said_line (said_of t)) (text_of (said_in (n - 1) c (answered_of c t))) w refl)
+      rw (e, f, said-first n t h)
+      (then a (said_line (said_of t)) (text_of (said_in (n - 1) c (answered_of c t))) w refl)

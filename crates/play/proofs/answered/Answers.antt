@@ -1,6 +1,6 @@
 -- `play::answered` meets its contract. Assumes nothing.
-use mathlib.Core.Path.{ap}
-use borrow.Author.Rules.{rules}
+use mathlib.Core.Path.{ap, ap₂, ◌∙◌}
+use Rattle.hagerzhang.specs.Machine.{answer_of}
 use Rattle.play.specs.declared.Played.TheVariants.{Pending}
 use Rattle.play.specs.Playing.{answered_by}
 use Rattle.play.proofs.answered.Goals as goal
@@ -8,11 +8,8 @@ use Rattle.play.proofs.answered.Goals as goal
 pub returns-in-Ask : goal.returns-in-Ask
 unfolding answered_by
 returns-in-Ask c =
-    rw (
-      c.in-Ask.is,
-      ← c.slope.ensures,
-      ← c.value.ensures,
-    ) (ap Pending c.answer.ensures.exact)
+    rw c.in-Ask.is
+    (ap Pending (c.answer.ensures.exact ∙ ap₂ (answer_of c.args.t.search) c.value.ensures c.slope.ensures))
 
 pub returns-in-Stop : goal.returns-in-Stop
 unfolding answered_by

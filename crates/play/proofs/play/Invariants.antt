@@ -1,9 +1,10 @@
-use mathlib.Core.Path.{◌≡◌, refl, ◌∙◌}
+-- What holds at each turn of `play::play`'s loop: what is left of the play, and the page with all that it will write,
+-- are as at the start. Assumes nothing.
+use mathlib.Core.Path.{◌≡◌}
 use lib.ListN.{length}
-use borrow.Author.Rules.{rules}
 use Rattle.text.specs.Text.{page}
 use Rattle.play.specs.Playing.{left_after}
-use Rattle.play.proofs.Turns.{ahead, at-over, at_last, turn-left, turn-ahead}
+use Rattle.play.proofs.Turns.{ahead}
 use Rattle.play.proofs.play.Given as goal
 
 abbrev pub invariant-loop-left : goal.invariant-loop-left
