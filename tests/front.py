@@ -47,7 +47,8 @@ sleep 0.03
 mkdir -p target/log target/stamp target/bin
 bad="" count=0
 for crate in "$@"; do
-    [ -d "crates/$crate" ] || { echo "rt: crates.txt: there is no crates/$crate" >&2; rmdir "$fake/only"; exit 2; }
+    [ -d "crates/$crate" ] ||
+        { echo "rt: crates.txt: there is no folder crates/$crate" >&2; rmdir "$fake/only"; exit 2; }
     : >"target/log/$crate.out"
     if [ -n "$bad" ]; then
         echo "rt: $crate NOT PROVED: its dependency $bad is not proved"
@@ -342,7 +343,7 @@ def failed_proof(p):
     p.unbuilt()
     os.rename(p.at("crates", "defaults"), p.at("crates", "gone"))
     explained("a crate that is not there", p.build("defaults"),
-              said("rt check failed: crates.txt: there is no crates/defaults").strip())
+              said("rt check failed: crates.txt: there is no folder crates/defaults").strip())
     os.rename(p.at("crates", "gone"), p.at("crates", "defaults"))
     p.tidy("failed proof")
 
