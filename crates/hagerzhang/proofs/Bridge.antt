@@ -14,9 +14,10 @@ use Rattle.refusals.specs.Results.{Result}
 use Rattle.refusals.specs.Refusals.{number_of}
 use Rattle.refusals.specs.declared.Refusal.{Refusal}
 use Rattle.refusals.specs.declared.Refusal.TheVariants.{StepNotFinite, BudgetSpent, StepNotBetween}
-use Rattle.runs.specs.Outcomes.{limit, refusal, Told, told, Why, budget_spent, step_not_finite, step_not_between, number_for}
+use Rattle.runs.specs.Outcomes.{limit, refusal, Told, told, Why, budget_spent, step_not_finite, step_not_between}
+use Rattle.runs.specs.Outcomes.{number_for}
 use Rattle.runs.specs.Asking.{Rest, end_with, keeping, respond, shown, first_of, once_told}
-use Rattle.runs.specs.Counters.{one_more, evaluations, iterations}
+use Rattle.runs.specs.Counters.{one_more, iterations}
 use Rattle.runs.proofs.Machines.{Seen, seen, counts-on}
 use Rattle.runs.proofs.Begins as starting
 use Rattle.runs.specs.declared.Evaluations.{Evaluations}
@@ -60,19 +61,20 @@ use Rattle.hagerzhang.specs.declared.state.Turn.{Turn}
 use Rattle.hagerzhang.specs.declared.state.Started.{Started}
 use Rattle.hagerzhang.specs.declared.state.Started.TheVariants.{Began, NoSearch}
 use Rattle.hagerzhang_rules.specs.Parameters.{setup_of, start_rows}
-use Rattle.hagerzhang_rules.specs.Rules.{point, answer_finite, middle_of, narrowed_of, longer_of, secant_of, S4, L2, best_of}
+use Rattle.hagerzhang_rules.specs.Rules.{point, answer_finite, middle_of, narrowed_of, longer_of, secant_of, S4, L2}
+use Rattle.hagerzhang_rules.specs.Rules.{best_of}
 use Rattle.hagerzhang_rules.specs.Rules.{judge_of, asking, trial, between, U3, updating, update, further, after_s4}
 use Rattle.hagerzhang_rules.specs.Rules.{iteration, iteration_by, ask_start, ask_high, enough, growth}
-use Rattle.hagerzhang_rules.specs.Rules.{starting as Starts-by, Report, nothing_yet, report_of, decided, verdict, rounds}
-use Rattle.hagerzhang_rules.specs.Rules.{rounds_by, hager_zhang, hager_zhang_by}
+use Rattle.hagerzhang_rules.specs.Rules.{starting as Starts-by, Report, nothing_yet, report_of, decided, verdict}
+use Rattle.hagerzhang_rules.specs.Rules.{rounds, rounds_by, hager_zhang, hager_zhang_by}
 use Rattle.hagerzhang_decisions.proofs.Decides.{decides}
 use Rattle.hagerzhang_steps.specs.State.{narrowing}
-use Rattle.hagerzhang_steps.specs.Moves.{tries_of, finished_of, attempt_of, probe_of, narrow_by, test_of, made_by, outlook_by}
-use Rattle.hagerzhang_steps.specs.Moves.{made_of, settled_of}
+use Rattle.hagerzhang_steps.specs.Moves.{tries_of, finished_of, attempt_of, probe_of, narrow_by, test_of, made_by}
+use Rattle.hagerzhang_steps.specs.Moves.{outlook_by, made_of, settled_of}
 use Rattle.hagerzhang_steps.specs.Opening.{first_by, first_of as opening_of, inside_of, arrived_of, stretch_of, grew_by}
 use Rattle.hagerzhang_steps.specs.Opening.{opens_of}
-use Rattle.hagerzhang_steps.specs.Iteration.{comes_of, left_of, tried_by, after_s4_of, after_s1_of, follow_by, onward_of, went_of}
-use Rattle.hagerzhang_steps.specs.Iteration.{running_of}
+use Rattle.hagerzhang_steps.specs.Iteration.{comes_of, left_of, tried_by, after_s4_of, after_s1_of, follow_by}
+use Rattle.hagerzhang_steps.specs.Iteration.{onward_of, went_of, running_of}
 use Rattle.hagerzhang_steps.specs.Steps.{starts_of, react_of}
 use Rattle.hagerzhang.specs.Machine.{keeps_of, step_asked, opening_step, step_due, taken_of, answer_by, answer_of}
 use Rattle.hagerzhang.specs.Machine.{fresh_of, start_of, StartSaid, AnswerSaid}
@@ -128,8 +130,8 @@ module _ (s : Setup) (fin : Finished) where
   tries : (rule : Rule) (w : Bracket) (x : Float)
       → moved (tries_of w rule x)
       ≡ seen (trial s (keeping k) k x (λ c. update s (keeping k) k w c (after_trial s fin rule x)))
-  unfolding attempt_of test_of made_by trial on_answer on_asked keeps_of step_due step_asked kept_report denote seen once_told
-      shown meaning
+  unfolding attempt_of test_of made_by trial on_answer on_asked keeps_of step_due step_asked kept_report denote seen
+      once_told shown meaning
   tries rule w x = by-cases₂ Means (finite x) (λ e. refl) (λ e. refl)
 
 -- ---- the start or an iteration is finished: the verdict, the limit, and S1 of the next iteration
@@ -227,8 +229,8 @@ module _ (s : Setup) (h : s.options.limit < 4294967296) (fin : Finished) where
     narrows : (n : ℕ) (came : Came)
         → went s fin (onward_of gamma fin.bracket t n came)
         ≡ seen (U3 s (keeping (last_of fin)) (last_of fin) n came goes_on)
-    unfolding onward_of went_of test_of narrow_by made_by U3 meaning on_answer on_asked keeps_of step_due step_asked kept_report
-        denote seen once_told shown
+    unfolding onward_of went_of test_of narrow_by made_by U3 meaning on_answer on_asked keeps_of step_due step_asked
+        kept_report denote seen once_told shown
     narrows zero (To u) = follows_on t.rule t.x u
     narrows (suc n) (To u) = follows_on t.rule t.x u
     narrows n (On h k') =
@@ -251,8 +253,8 @@ module _ (s : Setup) (h : s.options.limit < 4294967296) (real : is_nan s.level �
   arrives : (c : Point) (n : ℕ) (came : Came)
       → denote s (starts_of s (arrived_of s.options.params.theta c n came))
       ≡ seen (U3 s (keeping nothing_yet) nothing_yet n came (begins-with s c))
-  unfolding arrived_of inside_of starts_of U3 meaning on_answer on_opening keeps_of step_due opening_step kept_report denote seen
-      once_told shown
+  unfolding arrived_of inside_of starts_of U3 meaning on_answer on_opening keeps_of step_due opening_step kept_report
+      denote seen once_told shown
   arrives c zero (To w) = starts-rounds w c
   arrives c (suc n) (To w) = starts-rounds w c
   arrives c n (On h k) =
@@ -276,10 +278,12 @@ module _ (s : Setup) (h : s.options.limit < 4294967296) (real : is_nan s.level �
   opens : (w : Opening) (f g : Float) → denote s (starts_of s (opens_of s w f g)) ≡ seen (on_opening s w f g)
   unfolding opens_of on_opening
   opens (Low e) f g =
-      unfold ask_high starts_of keeps_of step_due opening_step kept_report denote seen once_told shown meaning on_answer in
+      unfold ask_high starts_of keeps_of step_due opening_step kept_report denote seen once_told shown meaning
+      on_answer in
       refl
   opens (High a x) f g =
-      unfold ask_start starts_of keeps_of step_due opening_step kept_report denote seen once_told shown meaning on_answer in
+      unfold ask_start starts_of keeps_of step_due opening_step kept_report denote seen once_told shown meaning
+      on_answer in
       refl
   opens (StartStep w) f g = unfold starts_of in starts-rounds w (point s.options.params.start f g)
   opens (First w) f g = grows (point w.x f g) (point w.x f g) w.left _

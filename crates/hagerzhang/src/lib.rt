@@ -94,6 +94,7 @@ pub fn answer(s: Search, f: f64, g: f64) -> Turn
 }
 
 // An answer to a search that is not over. Every finite answer counts, those of a refused iteration too.
+#[tactic(auto, unfolding(crate::specs::Machine::taken_of))]
 fn taken(s: Setup, n: Evaluations, waiting: Waiting, f: f64, g: f64) -> Turn
     ensures { result ≡ taken_of s n waiting f g }
 {
@@ -131,6 +132,7 @@ pub fn awaited(s: Search) -> Due
     }
 }
 
+#[tactic(auto, unfolding(crate::specs::Machine::step_due))]
 fn step_due(s: Setup, waiting: Waiting) -> f64
     ensures { result ≡ step_due s waiting }
 {
@@ -140,6 +142,7 @@ fn step_due(s: Setup, waiting: Waiting) -> f64
     }
 }
 
+#[tactic(auto, unfolding(crate::specs::Machine::opening_step))]
 fn opening_step(start: f64, w: Opening) -> f64
     ensures { result ≡ opening_step start w }
 {
@@ -153,6 +156,7 @@ fn opening_step(start: f64, w: Opening) -> f64
     }
 }
 
+#[tactic(auto, unfolding(crate::specs::Machine::step_asked))]
 fn step_asked(t: Trial, asked: Asked) -> f64
     ensures { result ≡ step_asked t asked }
 {
@@ -163,6 +167,7 @@ fn step_asked(t: Trial, asked: Asked) -> f64
 }
 
 // What is kept while an answer is awaited.
+#[tactic(auto, unfolding(crate::specs::Machine::keeps_of))]
 fn keeps(waiting: Waiting) -> Kept
     ensures { result ≡ keeps_of waiting }
 {

@@ -3,7 +3,6 @@ use Prim.Native.Nat.{◌<◌}
 use native.Mathlib.Omega.{arith}
 use Rattle.hagerzhang.specs.Machine.{answer_by}
 use Rattle.hagerzhang.proofs.Bridge.{promised}
-use borrow.Author.Rules.{rules}
 use Rattle.hagerzhang.proofs.answer.Goals as goal
 
 pub returns-in-Open : goal.returns-in-Open
@@ -16,6 +15,5 @@ returns-in-Open c =
 pub returns-in-Over : goal.returns-in-Over
 unfolding answer_by
 returns-in-Over c =
-    let a = c.args in
-    let fits : a.s.setup.options.limit < 4294967296 = omega arith in
-    promised a.s a.f a.g fits _ (rw c.in-Over.is)
+    let fits : c.args.s.setup.options.limit < 4294967296 = omega arith in
+    promised c.args.s c.args.f c.args.g fits _ (rw c.in-Over.is)

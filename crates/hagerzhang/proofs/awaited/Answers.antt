@@ -3,7 +3,6 @@ use mathlib.Core.Path.{ap}
 use Rattle.hagerzhang.specs.declared.state.Due.TheVariants.{Awaited}
 use Rattle.hagerzhang.specs.Machine.{awaited_at}
 use Rattle.hagerzhang.proofs.Answering.{awaited-promised}
-use borrow.Author.Rules.{rules}
 use Rattle.hagerzhang.proofs.awaited.Goals as goal
 
 pub returns-in-Open : goal.returns-in-Open

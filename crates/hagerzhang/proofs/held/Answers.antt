@@ -1,7 +1,6 @@
 -- `hagerzhang::held` meets its contract: what a state holds, which is what the rules report there. Assumes nothing.
 use Rattle.hagerzhang.specs.Machine.{held_at}
 use Rattle.hagerzhang.proofs.Answering.{held-promised}
-use borrow.Author.Rules.{rules}
 use Rattle.hagerzhang.proofs.held.Goals as goal
 
 pub returns-in-Open : goal.returns-in-Open
