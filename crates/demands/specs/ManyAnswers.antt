@@ -30,9 +30,8 @@ use Rattle.tables.specs.declared.Place.TheVariants.{At, Full}
 use Rattle.tables.specs.declared.Scanned.{Scanned}
 use Rattle.tables.specs.Tables.{searches_in, empty_table, seated_of, given_to, scan_of, table_told, ScanSaid}
 use Rattle.hagerzhang_rules.specs.declared.Options.{Options}
-use Rattle.hagerzhang_rules.specs.declared.Setup.{Setup}
 use Rattle.hagerzhang_rules.specs.Parameters.{setup_of}
-use Rattle.hagerzhang_rules.specs.Rules.{Report, hager_zhang}
+use Rattle.hagerzhang_rules.specs.Rules.{hager_zhang}
 use Rattle.hagerzhang.specs.declared.state.Turn.{Turn}
 use Rattle.hagerzhang.specs.Meaning.{report}
 use Rattle.backtracking.specs.declared.Options.{Options as TrialOptions}
