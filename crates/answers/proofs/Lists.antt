@@ -1,5 +1,7 @@
 -- A list of answers, read in place: the answer that begins at i, and the search that it changes. Assumes nothing.
-use Rattle.std.proofs.Common.{◌≡◌, ℕ, zero, suc, ◌+◌, ◌-◌, ◌%◌, ◌<◌, ◌≤◌, Bool, true, false, ◌&&◌, ltb, List, [], ◌∷◌, ◌++◌, length, get_or, drop, set, sym, refl, ap, ◌∙◌, le_of_suc-le-suc, not-suc-le-zero, arith, length-drop, drop-cons, ltb-true, le-ltb, lt-ltb}
+use Rattle.std.proofs.Common.{◌≡◌, ℕ, zero, suc, ◌+◌, ◌-◌, ◌%◌, ◌<◌, ◌≤◌, true, false, ◌&&◌, ltb, List, [], ◌∷◌}
+use Rattle.std.proofs.Common.{◌++◌, length, get_or, drop, set, refl, ap, le_of_suc-le-suc, not-suc-le-zero}
+use Rattle.std.proofs.Common.{arith, length-drop, drop-cons, ltb-true, le-ltb, lt-ltb}
 use lib.Ieee.{Float}
 use Rattle.floats.proofs.Branches.{by_cases, both, and_first, and_second}
 use Rattle.runs.specs.Asking.{Machine}
@@ -123,5 +125,6 @@ module _ {S : Type 0} (m : Machine S) where
       (ap (λ (u : List S). given_all m u (answers_in (drop (i + 3) xs)))
       (changed-set t (search_number (get_or xs i d)) (λ s. m.next s (get_or xs (i + 1) d) (get_or xs (i + 2) d)) z l))
 
-  pub all-given : (t : List S) (xs : List Float) (i : ℕ) → length xs - i < 3 → given_all m t (answers_in (drop i xs)) ≡ t
+  pub all-given : (t : List S) (xs : List Float) (i : ℕ) → length xs - i < 3
+      → given_all m t (answers_in (drop i xs)) ≡ t
   all-given t xs i h = rw (none_left xs i h)

@@ -1,11 +1,13 @@
 -- Many answers to many searches, over any machine: each search of a table has its own answers, whatever the others get.
 -- All the rest follows from this one law, `alone`. Assumes nothing.
-use Rattle.std.proofs.Common.{◌≡◌, ℕ, zero, suc, ◌<◌, ◌≤◌, Bool, true, false, cond, ◌&&◌, eqb, ltb, List, [], ◌∷◌, ◌++◌, map, length, take, sym, refl, ap, ◌∙◌, subst, ap₂, true≢false, le_of_suc-le-suc, not-suc-le-zero, arith, ltb-false, ltb-true, eq-eqb, ne_eqb, eqb-true}
+use Rattle.std.proofs.Common.{◌≡◌, ℕ, zero, suc, ◌<◌, ◌≤◌, Bool, true, false, cond, ◌&&◌, eqb, ltb, List, [], ◌∷◌, ◌++◌}
+use Rattle.std.proofs.Common.{map, length, take, sym, refl, ap, ◌∙◌, subst, ap₂, le_of_suc-le-suc}
+use Rattle.std.proofs.Common.{not-suc-le-zero, arith, ltb-false, ltb-true, eq-eqb, ne_eqb, eqb-true}
 use mathlib.Core.List.{foldl-append, cons≢nil}
 use mathlib.Core.Option.{Option, none, some, none-ne-some, some-injective}
 use lib.ListN.{get_elem?}
 use borrow.Author.Tests.{eqb-false}
-use Rattle.floats.proofs.Branches.{by_cases, and_first, and_second}
+use Rattle.floats.proofs.Branches.{and_first, and_second}
 use Rattle.runs.specs.Outcomes.{Told}
 use Rattle.runs.specs.Asking.{Reply, Machine, reached, played}
 use Rattle.answers.specs.Many.{Answer, under, changed, given_one, given_all, told_at_one, told_all, Laws}
@@ -225,4 +227,9 @@ module _ {S : Type 0} (m : Machine S) where
       rw found.1 (ap (λ l. a.0 ∷ l) (each-told ys (given_one m t a) (rw size rest)))
 
   pub laws : Laws m
-  laws = record { either_order = either_order; any_order = any_order; outcomes-own = told-alone; search-own = reached-alone }
+  laws = record {
+    either_order = either_order;
+    any_order = any_order;
+    outcomes-own = told-alone;
+    search-own = reached-alone;
+  }

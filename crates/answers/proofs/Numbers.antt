@@ -1,9 +1,12 @@
 -- The number that a float names. A float that is equal to a whole number has it as its whole part; so it names at most
 -- one number, and one whose whole part it is not equal to names none. Assumes nothing.
-use Rattle.std.proofs.Common.{◌≡◌, ℕ, zero, suc, ◌-◌, ◌*◌, ◌/◌, ◌^◌, ◌<◌, ◌≤◌, min, Bool, true, false, cond, ◌&&◌, T, pos, sym, refl, ap, ◌∙◌, inl, inr, true≢false, le_of_suc-le-suc, not-suc-le-zero, eq-or-lt_of_le, zero-mul, arith, le→leb, eqb→eq}
+use Rattle.std.proofs.Common.{◌≡◌, ℕ, zero, suc, ◌-◌, ◌/◌, ◌^◌, ◌<◌, ◌≤◌, min, Bool, true, false, cond, ◌&&◌}
+use Rattle.std.proofs.Common.{pos, sym, refl, ap, ◌∙◌, inl, inr, true≢false, le_of_suc-le-suc, not-suc-le-zero}
+use Rattle.std.proofs.Common.{eq-or-lt_of_le, zero-mul, arith, le→leb, eqb→eq}
 use mathlib.Core.Bool.{false≢true}
 use native.Mathlib.Nat.{zero-div, zero-min}
-use lib.Ieee.{Float, nan, inf, fin, binary64, lt, eq, up, down, to_unsigned, of_int, in_float, of_bits, round, neg, fits}
+use lib.Ieee.{Float, nan, inf, fin, binary64, lt, eq, up, down, to_unsigned, of_int, in_float, of_bits, round, neg}
+use lib.Ieee.{fits}
 use lib.Ieee.Fits.{of_int-fits}
 use lib.Ieee.Back.{unsigned_back}
 use lib.Ieee.Bits.{is_true}

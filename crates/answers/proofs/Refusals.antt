@@ -1,16 +1,14 @@
 -- What `check` tells, read both ways: a sound list has whole answers, each of which names a search; and whatever stands
 -- behind the rows comes where the list is sound. Assumes nothing.
-use Rattle.std.proofs.Common.{◌≡◌, ℕ, ◌%◌, Bool, true, false, cond, not, eqb, List, ◌++◌, length, sym, refl, ap, ◌∙◌, arith, length-append, eq-eqb, eqb-true}
+use Rattle.std.proofs.Common.{◌≡◌, ℕ, ◌%◌, true, not, eqb, List, ◌++◌, length, sym, refl, ap, ◌∙◌}
+use Rattle.std.proofs.Common.{arith, length-append, eq-eqb, eqb-true}
 use lib.Ieee.{Float}
 use borrow.Author.Tests.{not-false}
-use Rattle.floats.proofs.Determined.{determined}
 use Rattle.refusals.specs.Results.{Result, value, refused, refuse◌else◌}
 use Rattle.refusals.proofs.Refusals.{Passed, all, and, passed, alike}
-use Rattle.answers.specs.declared.Refusal.{Refusal}
-use Rattle.answers.specs.declared.Refusal.TheVariants.{Lengths, NoSuchSearch}
 use Rattle.answers.specs.declared.Checked.{Checked}
-use Rattle.answers.specs.declared.Checked.TheVariants.{Sound, Refused}
-use Rattle.answers.specs.Answers.{answers_in, size_of, all_named, list_rows, refusal_number, checked_told, CheckedSaid}
+use Rattle.answers.specs.declared.Checked.TheVariants.{Sound}
+use Rattle.answers.specs.Answers.{answers_in, size_of, all_named, list_rows, checked_told, CheckedSaid}
 use Rattle.answers.proofs.Lists.{answers-of-both, named-in-both, named-in-each}
 
 abbrev pub Sound-list : ℕ → List Float → Type 0

@@ -1,6 +1,7 @@
 -- 02, request 6: "One call takes a list of (search number, cost, slope) laid end to end in one lent slice of f64". What
 -- a list says, and what it is refused by.
-use Rattle.std.specs.Prelude.{◌≡◌, ℕ, zero, suc, ◌%◌, Bool, true, cond, not, ◌&&◌, List, [], ◌∷◌, length, ◌==◌, nat_lt, Float}
+use Rattle.std.specs.Prelude.{◌≡◌, ℕ, zero, suc, ◌%◌, Bool, true, cond, not, ◌&&◌, List, [], ◌∷◌, length, ◌==◌, nat_lt}
+use Rattle.std.specs.Prelude.{Float}
 use Rattle.floats.specs.Arithmetic.{◌=ᶠ◌}
 use Rattle.floats.specs.Numerals.{whole}
 use Rattle.refusals.specs.Results.{Result, value, refused, Row, refuse◌else◌}

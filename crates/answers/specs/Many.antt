@@ -1,5 +1,5 @@
--- 02, request 6, over any machine: a list of answers to the searches of a table, and the laws of it (`Laws`). Nothing here
--- looks at what a search is. It has states, an answer leads to the next one, and something is told.
+-- 02, request 6, over any machine: a list of answers to the searches of a table, and the laws of it (`Laws`). Nothing
+-- here looks at what a search is. It has states, an answer leads to the next one, and something is told.
 use Rattle.std.specs.Prelude.{◌≡◌, ℕ, zero, suc, cond, List, [], ◌∷◌, ◌++◌, ◌==◌, ◌≢◌}
 use mathlib.Core.List.{foldl}
 use Rattle.std.proofs.Math.Option.{Option, none, some}
@@ -49,8 +49,8 @@ module _ {S : Type 0} (m : Machine S) where
     -- hence any order that keeps each search's own
     pub any_order : (ys zs : List Answer) → ((i : ℕ) → under i ys ≡ under i zs) → (t : List S)
         → given_all t ys ≡ given_all t zs
-    -- "the outcomes of one search do not depend on another's answers": all of them, in order, are those of the search by
-    -- itself at its own answers; and so is what it then is
+    -- "the outcomes of one search do not depend on another's answers": all of them, in order, are those of the search
+    -- by itself at its own answers; and so is what it then is
     pub outcomes-own : (i : ℕ) (ys : List Answer) (t : List S) (s : S) → get_elem? t i ≡ some s
         → under i (told_all t ys) ≡ played m s (under i ys)
     pub search-own : (t : List S) (ys : List Answer) (i : ℕ) (s : S) → get_elem? t i ≡ some s

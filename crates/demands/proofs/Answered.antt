@@ -8,7 +8,6 @@ use lib.Ieee.{Float}
 use Rattle.floats.proofs.Branches.{by_cases}
 use Rattle.refusals.specs.Refusals.{given}
 use Rattle.runs.specs.Outcomes.{Ending, asks, ends, told, refusal_in}
-use Rattle.runs.specs.Counters.{evaluations}
 use Rattle.runs.proofs.Apart.{asks-not-ends}
 use Rattle.runs.specs.declared.Outcome.{Outcome}
 use Rattle.hagerzhang_rules.specs.Rules.{answer_finite}

@@ -24,7 +24,8 @@ use Rattle.hagerzhang_rules.specs.declared.Grown.TheVariants.{TooShort}
 use Rattle.hagerzhang_rules.specs.declared.Options.{Options}
 use Rattle.hagerzhang_rules.specs.declared.Setup.{Setup}
 use Rattle.hagerzhang_rules.specs.Parameters.{level_of, setup_of, start_rows}
-use Rattle.hagerzhang_rules.specs.Rules.{point, answer_finite, zero_of, grown_of, trial, ask_high, enough, growth, starting}
+use Rattle.hagerzhang_rules.specs.Rules.{point, answer_finite, zero_of, grown_of, trial, ask_high, enough, growth}
+use Rattle.hagerzhang_rules.specs.Rules.{starting}
 use Rattle.hagerzhang_rules.specs.Rules.{Report, nothing_yet, rounds, hager_zhang, hager_zhang_by}
 use Rattle.hagerzhang_rules.specs.Iterations.{report_finite}
 use Rattle.hagerzhang_rules.proofs.Ranges.{Accepted, low-below-high, start-finite, start-above, start_fits, some-growth}

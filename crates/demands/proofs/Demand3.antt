@@ -13,12 +13,11 @@ use Rattle.hagerzhang_rules.specs.Parameters.{setup_of}
 use Rattle.hagerzhang_rules.specs.Rules.{Report, iterations_in}
 use Rattle.hagerzhang_rules.specs.Iterations.{EndedBecause, by-limit}
 use Rattle.hagerzhang_rules.proofs.Ranges.{Accepted, most-answers}
-use Rattle.hagerzhang_rules.proofs.Iterations.{most_at}
 use Rattle.hagerzhang_rules.proofs.Demand3 as rules
 use Rattle.hagerzhang.specs.declared.state.Search.{Search}
 use Rattle.hagerzhang.specs.declared.state.Turn.{Turn}
 use Rattle.hagerzhang.specs.Machine.{fresh_of}
-use Rattle.demands.specs.Runs.{Gave, reached_by}
+use Rattle.demands.specs.Runs.{Gave}
 use Rattle.demands.specs.Demand1.{Reason}
 use Rattle.demands.specs.Demand3.{AtLimit, Bounded, Demand3}
 use Rattle.demands.proofs.Refused.{fresh-refused}

@@ -1,8 +1,7 @@
 -- A search in a table, of any kind: it sits in the next seat, and goes on by its own answers. Assumes nothing.
 use mathlib.Core.Path.{◌≡◌, refl, sym, ap, ap₂, ◌∙◌, subst}
-use mathlib.Core.Bool.{true, false}
 use mathlib.Core.List.{List, [], ◌∷◌, ◌++◌}
-use mathlib.Core.Option.{Option, none, some, none-ne-some}
+use mathlib.Core.Option.{some, none-ne-some}
 use Prim.Native.Nat.{ℕ, zero, suc, ◌+◌, ◌<◌, ◌≤◌}
 use native.Mathlib.Nat.{not-suc-le-zero, le_of_suc-le-suc}
 use native.Mathlib.Omega.{arith}
@@ -42,7 +41,8 @@ taken-whole t u xs e =
     ap searches_in (sym (taken t u xs e).1) ∙ given-part seats.machine (size_of t.size) (answers_in xs) t.seats
 
 pub search-own : (t u : Table) (xs : List Float) → scan_of t xs ≡ value u → (i : ℕ) (s : Seat)
-    → get_elem? (searches_in t) i ≡ some s → get_elem? (searches_in u) i ≡ some (reached seats.machine s (own_answers i xs))
+    → get_elem? (searches_in t) i ≡ some s
+    → get_elem? (searches_in u) i ≡ some (reached seats.machine s (own_answers i xs))
 search-own t u xs e i s found =
     ap (λ (l : List Seat). get_elem? l i) (taken-whole t u xs e)
     ∙ reached-alone seats.machine (searches_in t) (answers_in xs) i s found
@@ -132,7 +132,8 @@ module _ {A : Type 0} where
   append-thrice (x ∷ k) l r = ap (λ z. x ∷ z) (append-thrice k l r)
 
   -- what is found among the first n is found where the next place gets something
-  kept : (n i : ℕ) (l : List A) (x z : A) → get_elem? (take n l) i ≡ some x → get_elem? (take (suc n) (set l n z)) i ≡ some x
+  kept : (n i : ℕ) (l : List A) (x z : A) → get_elem? (take n l) i ≡ some x
+      → get_elem? (take (suc n) (set l n z)) i ≡ some x
   kept zero i l x z e = absurd (none-ne-some x e)
   kept (suc n) i [] x z e = absurd (none-ne-some x e)
   kept (suc n) zero (y ∷ l) x z e = e

@@ -18,7 +18,8 @@ use Rattle.backtracking.specs.Machine.{fresh_of as trials_fresh, answer_by, trie
 use Rattle.hagerzhang_rules.specs.declared.Setup.{Setup}
 use Rattle.hagerzhang_rules.specs.Parameters.{setup_of, start_rows}
 use Rattle.hagerzhang_rules.specs.Rules.{answer_finite, update_of, narrowed_of, S2, S3, L2, best_over, judge_of, trial}
-use Rattle.hagerzhang_rules.specs.Rules.{between, U3, updating, further, after_s4, iteration_by, EPS, grown_of, ask_start}
+use Rattle.hagerzhang_rules.specs.Rules.{between, U3, updating, further, after_s4, iteration_by, EPS, grown_of}
+use Rattle.hagerzhang_rules.specs.Rules.{ask_start}
 use Rattle.hagerzhang_rules.specs.Rules.{ask_high, enough, growth, starting, Report, iterations_in, decided, verdict}
 use Rattle.hagerzhang_rules.specs.Rules.{rounds_by, hager_zhang, hager_zhang_by}
 use Rattle.hagerzhang_rules.proofs.Ranges.{Accepted}
@@ -54,9 +55,9 @@ record Computed : Type 0 where
   non-finite : is_not_finite answer_finite search (bad ∷ bad ∷ []) ≡ 1
 
 computed : Computed
-unfolding under-way accepted after respond shown reported is_over hager_zhang_by starting ask_high ask_start rounds_by verdict
-    decided judge_of best_over iteration_by after_s4 further updating U3 between trial L2 S3 S2 narrowed_of update_of
-    add sub mul div neg le lt of_bits of_int
+unfolding under-way accepted after respond shown reported is_over hager_zhang_by starting ask_high ask_start rounds_by
+    verdict decided judge_of best_over iteration_by after_s4 further updating U3 between trial L2 S3 S2 narrowed_of
+    update_of add sub mul div neg le lt of_bits of_int
 computed = record {
   finished = refl;
   unfinished = refl;
@@ -111,9 +112,9 @@ record Grew : Type 0 where
   then-over : shown (respond (after grown all_growing_but_last) (up 1ᶠ).0 (up 1ᶠ).1) ≡ ends (limit EPS)
 
 grew : Grew
-unfolding under-way after respond shown reported is_over hager_zhang_by starting growth enough grown_of rounds_by verdict
-    decided judge_of best_over iteration_by after_s4 further updating U3 between trial L2 S3 S2 narrowed_of update_of
-    add sub mul div neg le lt of_bits of_int
+unfolding under-way after respond shown reported is_over hager_zhang_by starting growth enough grown_of rounds_by
+    verdict decided judge_of best_over iteration_by after_s4 further updating U3 between trial L2 S3 S2 narrowed_of
+    update_of add sub mul div neg le lt of_bits of_int
 grew = record {
   finished = refl;
   unfinished = refl;

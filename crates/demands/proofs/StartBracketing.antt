@@ -21,7 +21,8 @@ use Rattle.hagerzhang_rules.specs.declared.Way.TheVariants.{Growing}
 use Rattle.hagerzhang_rules.specs.declared.Options.{Options}
 use Rattle.hagerzhang_rules.specs.declared.Setup.{Setup}
 use Rattle.hagerzhang_rules.specs.Parameters.{setup_of}
-use Rattle.hagerzhang_rules.specs.Rules.{answer_finite, starting, Summary, Report, nothing_yet, last, rounds, hager_zhang}
+use Rattle.hagerzhang_rules.specs.Rules.{answer_finite, starting, Summary, Report, nothing_yet, last, rounds}
+use Rattle.hagerzhang_rules.specs.Rules.{hager_zhang}
 use Rattle.hagerzhang_rules.specs.Rules.{hager_zhang_by}
 use Rattle.hagerzhang_rules.specs.Iterations.{most_by, most_in_start, Opens, Brings, first}
 use Rattle.hagerzhang_rules.proofs.Ranges.{Accepted}

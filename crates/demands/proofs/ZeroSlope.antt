@@ -2,13 +2,13 @@
 -- the former ones do, or part from them (hagerzhang_rules/proofs/ZeroSlope.antt). Assumes nothing.
 use mathlib.Core.Path.{◌∙◌}
 use mathlib.Core.List.{List}
-use mathlib.Core.Logic.{◌⊎◌, inl, inr}
+use mathlib.Core.Logic.{inl, inr}
 use lib.Ieee.{Float}
 use Rattle.runs.specs.Asking.{Reply}
 use Rattle.hagerzhang_rules.specs.declared.Options.{Options}
 use Rattle.hagerzhang_rules.specs.Parameters.{setup_of}
 use Rattle.hagerzhang_rules.specs.Rules.{hager_zhang}
-use Rattle.hagerzhang_rules.specs.ZeroSlope.{formerly, marked, Alike, Parts}
+use Rattle.hagerzhang_rules.specs.ZeroSlope.{formerly, Alike}
 use Rattle.hagerzhang_rules.proofs.ZeroSlope.{zero-slope as of-rules}
 use Rattle.hagerzhang.specs.declared.state.Turn.{Turn}
 use Rattle.demands.specs.Runs.{Gave}

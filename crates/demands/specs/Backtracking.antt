@@ -1,7 +1,8 @@
 -- Demands 1 to 3 of backtracking: what an answer to any state refuses and leaves, and which programs its contract shuts
 -- out; and, of a search that `start` gave, t, for every list of answers, that it is 01's, that it ends, and what it
 -- counts.
-use Rattle.std.specs.Prelude.{ℕ, ◌+◌, ◌-◌, ◌≤◌, ◌≡◌, Bool, true, false, cond, not, ◌||◌, List, [], ◌∷◌, leb, length, Float}
+use Rattle.std.specs.Prelude.{ℕ, ◌+◌, ◌-◌, ◌≤◌, ◌≡◌, Bool, true, false, cond, not, ◌||◌, List, [], ◌∷◌, leb, length}
+use Rattle.std.specs.Prelude.{Float}
 use Rattle.std.proofs.Math.Option.{Option, none, some}
 use Rattle.std.specs.Float.{binary64}
 use Rattle.std.specs.Float.Ieee.{fits}

@@ -113,7 +113,8 @@ module _ (o : Options) (f0 s0 : Float) (t : Turn) where
         → answer_finite y.0 y.1 ≡ true
         → (h : Point) (k : Float)
         → standing s (report (reached_by b (and_then ys y))) (points_asked b (and_then ys y)) ≡ some (On h k)
-        → told_after b ys y ≡ told_in_u3 s (had s (report (reached_by b (and_then ys y))) (points_asked b (and_then ys y))) h k
+        → told_after b ys y
+        ≡ told_in_u3 s (had s (report (reached_by b (and_then ys y))) (points_asked b (and_then ys y))) h k
     -- 11 and 5 of a start that grows, both ways and in this order: where a finite answer leaves it growing
     pub in-growth : (K : ℕ) → o.way ≡ Growing K → (ys : List Reply) (y : Reply)
         → is_over (reached_by b ys).stage ≡ false
@@ -133,7 +134,8 @@ module _ (o : Options) (f0 s0 : Float) (t : Turn) where
 
 pub record Demand1 : Type 0 where
   -- 1, 2, 4, of a dot and of a point; their rows give the number and the index
-  pub dot : (a b : List Float) (r : DotResult) → DotSaid a b r → TableBy number_in (refused_by (dot_told r)) (dot_rows a b)
+  pub dot : (a b : List Float) (r : DotResult) → DotSaid a b r
+      → TableBy number_in (refused_by (dot_told r)) (dot_rows a b)
   pub point : (x0 : List Float) (alpha : Float) (d held : List Float) (r : PointResult) (now : List Float)
       → PointSaid x0 alpha d held r now
       → TableBy number_in (refused_by (point_told r now)) (point_rows x0 alpha d (length held))
@@ -147,7 +149,8 @@ pub record Demand1 : Type 0 where
   pub buffer : (x0 : List Float) (alpha : Float) (d held : List Float) (r : PointResult) (now : List Float) (k : Fault)
       → PointSaid x0 alpha d held r now → point_told r now ≡ refused k → now ≡ held
   -- 2 and 3 of a condition
-  pub condition : (C : Condition) (r : Checked) → CheckedSaid C r → Table (refused_by (checked_told r)) (condition_rows C)
+  pub condition : (C : Condition) (r : Checked) → CheckedSaid C r
+      → Table (refused_by (checked_told r)) (condition_rows C)
   -- a condition that is not refused is handed on as it came
   pub condition-kept : (C D : Condition) → CheckedSaid C (Fit D) → D ≡ C
   -- 3 of a curve's number

@@ -21,8 +21,8 @@ use Rattle.demands.specs.Runs.{finished_by}
 
 -- ---- the bounds; specs/Reached.antt has a search that reaches each
 
--- "3+N(3+3B)", and 1+K+B+N(3+3B) behind a start that grows: `most_in_start`, `most_in_iteration` and, at the largest B, N
--- and K, `most_ever` are those of hagerzhang_rules/specs/Iterations.antt
+-- "3+N(3+3B)", and 1+K+B+N(3+3B) behind a start that grows: `most_in_start`, `most_in_iteration` and, at the largest B,
+-- N and K, `most_ever` are those of hagerzhang_rules/specs/Iterations.antt
 abbrev pub most_in_search : Options → ℕ
 most_in_search o = most_in_start o + o.limit * most_in_iteration o
 
@@ -74,7 +74,8 @@ module _ (o : Options) (f0 s0 : Float) (t : Turn) where
     pub iteration-bounded : (ys : List Reply) (p : Summary) → report (reached_by b ys) ≡ last p
         → length (points_asked b ys) ≤ most_in_iteration o
     -- three answers of 01's start; 02, request 3: "at most 1+K+B"
-    pub start-bounded : (ys : List Reply) → report (reached_by b ys) ≡ nothing_yet → length (points_asked b ys) ≤ most_in_start o
+    pub start-bounded : (ys : List Reply) → report (reached_by b ys) ≡ nothing_yet
+        → length (points_asked b ys) ≤ most_in_start o
     -- "any search ends within 3+N(3+3B)", or 1+K+B+N(3+3B)
     pub search-ends : (ys : List Reply) → most_in_search o ≤ length ys → is_over (reached_by b ys).stage ≡ true
     -- "The reported evaluations equal the finite answers accepted": no counter stops

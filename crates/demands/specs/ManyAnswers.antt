@@ -30,9 +30,8 @@ use Rattle.tables.specs.declared.Place.TheVariants.{At, Full}
 use Rattle.tables.specs.declared.Scanned.{Scanned}
 use Rattle.tables.specs.Tables.{searches_in, empty_table, seated_of, given_to, scan_of, table_told, ScanSaid}
 use Rattle.hagerzhang_rules.specs.declared.Options.{Options}
-use Rattle.hagerzhang_rules.specs.declared.Setup.{Setup}
 use Rattle.hagerzhang_rules.specs.Parameters.{setup_of}
-use Rattle.hagerzhang_rules.specs.Rules.{Report, hager_zhang}
+use Rattle.hagerzhang_rules.specs.Rules.{hager_zhang}
 use Rattle.hagerzhang.specs.declared.state.Turn.{Turn}
 use Rattle.hagerzhang.specs.Meaning.{report}
 use Rattle.backtracking.specs.declared.Options.{Options as TrialOptions}
@@ -61,7 +60,8 @@ last_told o (p ∷ os) = last_told p os
 
 -- a kind of search: a seat that holds its state s goes and tells as s does
 pub record Kind {S : Type 0} (kind : Machine S) (held : S → Held) : Type 0 where
-  pub leaves : (s : S) (o : Outcome) (f g : Float) → (answered_of (seat_of (held s) o) f g).held ≡ held (kind.next s f g)
+  pub leaves : (s : S) (o : Outcome) (f g : Float)
+      → (answered_of (seat_of (held s) o) f g).held ≡ held (kind.next s f g)
   pub says : (s : S) (o : Outcome) (f g : Float)
       → told (answered_of (seat_of (held s) o) f g).outcome ≡ kind.says s f g
   pub over : (s : S) → is_over (held s) ≡ kind.over s
@@ -108,8 +108,8 @@ pub data Somebody (t : Table) (i : ℕ) : Type 0 where
       → trials_start o f0 s0 ≡ value r → BacktrackingSits r ys os t i → Somebody t i
 
 -- ---- demands 2 and 3 of it: all that it told, first and at its answers, what it told last and what it holds are the
--- rules'. The demands themselves speak of the search that r began, at any answers; so at ys, after which the seat has it
--- (`holds` of `Sits`)
+-- rules'. The demands themselves speak of the search that r began, at any answers; so at ys, after which the seat has
+-- it (`holds` of `Sits`)
 
 pub record HagerZhangIn (o : Options) (f0 s0 : Float) (r : Turn) (ys : List Reply) (os : List Told) : Type 0 where
   pub first : told r.outcome ≡ shown (hager_zhang (setup_of o f0 s0))
@@ -159,7 +159,8 @@ pub record ManyAnswers : Type 1 where
 
   -- of any machine
   pub laws : {S : Type 0} (m : Machine S) → Laws m
-  -- "answers to two different searches leave the same table in either order": any two neighbours of a list, taken or not
+  -- "answers to two different searches leave the same table in either order": any two neighbours of a list, taken or
+  -- not
   pub either_order : (t : Table) (xs zs : List Float) (x f g y h k : Float) → length xs % 3 ≡ 0
       → (search_number x ≡ search_number y → ⊥)
       → scan_of t (xs ++ x ∷ f ∷ g ∷ y ∷ h ∷ k ∷ zs) ≡ scan_of t (xs ++ y ∷ h ∷ k ∷ x ∷ f ∷ g ∷ zs)
@@ -172,7 +173,8 @@ pub record ManyAnswers : Type 1 where
       → get_elem? (searches_in t) i ≡ some s → under i (outcomes_in t xs) ≡ played seats.machine s (own_answers i xs)
   -- and so is what it then is, with the last of them. So "A refused answer ends only its own search."
   pub search-own : (t u : Table) (xs : List Float) → scan_of t xs ≡ value u → (i : ℕ) (s : Seat)
-      → get_elem? (searches_in t) i ≡ some s → get_elem? (searches_in u) i ≡ some (reached seats.machine s (own_answers i xs))
+      → get_elem? (searches_in t) i ≡ some s
+      → get_elem? (searches_in u) i ≡ some (reached seats.machine s (own_answers i xs))
   pub shows-last : (s : Seat) (ys : List Reply)
       → told (reached seats.machine s ys).outcome ≡ last_told (told s.outcome) (played seats.machine s ys)
   -- each answer is told something, by the search that it names; a table's array has 32 seats
@@ -201,5 +203,6 @@ pub record ManyAnswers : Type 1 where
   pub every-search : (t : Table) → Built t → (i : ℕ) → i < t.size → Somebody t i
   pub hager-zhang-in : (o : Options) (f0 s0 : Float) (r : Turn) (ys : List Reply) (os : List Told) (t : Table) (i : ℕ)
       → Gave o f0 s0 r → HagerZhangSits r ys os t i → HagerZhangIn o f0 s0 r ys os
-  pub backtracking-in : (o : TrialOptions) (f0 s0 : Float) (r : TrialTurn) (ys : List Reply) (os : List Told) (t : Table)
-      (i : ℕ) → trials_start o f0 s0 ≡ value r → BacktrackingSits r ys os t i → BacktrackingIn o f0 s0 r ys os
+  pub backtracking-in : (o : TrialOptions) (f0 s0 : Float) (r : TrialTurn) (ys : List Reply) (os : List Told)
+      (t : Table) (i : ℕ) → trials_start o f0 s0 ≡ value r
+      → BacktrackingSits r ys os t i → BacktrackingIn o f0 s0 r ys os

@@ -33,7 +33,8 @@ module _ (K : ℕ) (o : Options) (f0 s0 : Float) (t : Turn) where
     -- "the first trial is the start step"
     pub first-trial : told t.outcome ≡ asks o.params.start
     -- "The three start answers are replaced by at most 1+K+B": while the start lasts, and where it ended in it
-    pub start-few : (ys : List Reply) → report (reached_by b ys) ≡ nothing_yet → length (points_asked b ys) ≤ 1 + K + o.budget
+    pub start-few : (ys : List Reply) → report (reached_by b ys) ≡ nothing_yet
+        → length (points_asked b ys) ≤ 1 + K + o.budget
     -- so any search ends within 1+K+B+N(3+3B) answers
     pub search-ends : (ys : List Reply) → 1 + K + o.budget + o.limit * (3 + 3 * o.budget) ≤ length ys
         → is_over (reached_by b ys).stage ≡ true

@@ -1,7 +1,7 @@
 -- 02, request 2: "Jobs without tag 2 relied on the old number. Our stored jobs get a field 2 written with the old
 -- bounds, and a test shows that their output is unchanged." For any bytes s, `stored_jobs::with_bounds` writes
--- `kept_of s`. Here is what that is, and that it says what s said. `job_by d` is what bytes say where d are the defaults,
--- and the first two fields tie it to 01's format; `job_of` and `output_of` are those of today's defaults.
+-- `kept_of s`. Here is what that is, and that it says what s said. `job_by d` is what bytes say where d are the
+-- defaults, and the first two fields tie it to 01's format; `job_of` and `output_of` are those of today's defaults.
 use Rattle.std.specs.Prelude.{ℕ, ◌≤◌, ◌<◌, ◌≡◌, List, length}
 use Rattle.std.proofs.Math.Option.{some}
 use Rattle.refusals.specs.Results.{value, refused}

@@ -1,13 +1,9 @@
 -- `answers::all_named` meets its contract: the answers before i name searches, and what is left decides. Assumes
 -- nothing.
-use Rattle.std.proofs.Common.{◌≡◌, ◌-◌, ◌≤◌, length, drop, sym, refl, ◌∙◌, arith}
+use Rattle.std.proofs.Common.{sym, ◌∙◌, arith}
 use lib.Ieee.{nan}
-use Rattle.answers.specs.Answers.{answers_in, all_named}
 use Rattle.answers.proofs.Lists.{unnamed, named_step, all_seen}
 use Rattle.answers.proofs.all_named.Goals as goal
-
-pub loop-i-init : goal.loop-i-init
-loop-i-init c = (omega arith, refl)
 
 -- the answer at i names none
 pub returns-then-n-number : goal.returns-then-n-number

@@ -1,7 +1,7 @@
-use Rattle.std.proofs.Common.{◌≡◌, ◌-◌, ◌≤◌, length, drop, sym, refl, ◌∙◌, arith}
-use lib.Ieee.{nan}
+-- What holds at each turn of `answers::all_named`'s loop: the answers before i name searches, and what is left decides.
+-- Assumes nothing.
+use Rattle.std.proofs.Common.{◌≡◌, ◌-◌, ◌≤◌, length, drop}
 use Rattle.answers.specs.Answers.{answers_in, all_named}
-use Rattle.answers.proofs.Lists.{unnamed, named_step, all_seen}
 use Rattle.answers.proofs.all_named.Given as goal
 
 abbrev pub invariant-loop-i : goal.invariant-loop-i

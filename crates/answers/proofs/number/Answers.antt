@@ -1,5 +1,5 @@
 -- `answers::number` meets its contract: the whole part is the number that is named, if any is. Assumes nothing.
-use Rattle.std.proofs.Common.{◌≡◌, T, sym, ap, ◌∙◌, subst, arith, rules}
+use Rattle.std.proofs.Common.{T, sym, subst, arith}
 use lib.Ieee.{of_bits, neg}
 use Rattle.answers.proofs.Numbers.{number_is, none_below, none_above, none-large, none-unequal}
 use Rattle.answers.proofs.number.Goals as goal
