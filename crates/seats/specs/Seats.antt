@@ -1,5 +1,5 @@
--- 02, request 6: "the table of searches". A seat in it: a search of either kind with what it last told, and one answer to
--- it, which is that of its own kind.
+-- 02, request 6: "the table of searches". A seat in it: a search of either kind with what it last told, and one answer
+-- to it, which is that of its own kind.
 use Rattle.std.specs.Prelude.{Bool, Float}
 use Rattle.runs.specs.declared.Outcome.{Outcome}
 use Rattle.runs.specs.Outcomes.{told}
