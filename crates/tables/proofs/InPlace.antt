@@ -1,10 +1,9 @@
 -- One turn of the loop in `given`, over any values: the search with the answer's number has in its seat what its
 -- `answer` gives. Assumes nothing.
-use mathlib.Core.Path.{◌≡◌, refl, sym, ap, ◌∙◌, subst}
+use mathlib.Core.Path.{◌≡◌, sym, ap, ◌∙◌}
 use mathlib.Core.List.{List, map}
-use Prim.Native.Nat.{ℕ, ◌+◌, ◌<◌, ◌≤◌, ◌-◌}
-use native.Mathlib.Omega.{arith}
-use lib.ListN.{length, length-map, length-set, get_or, set, drop}
+use Prim.Native.Nat.{ℕ, ◌+◌, ◌<◌, ◌-◌}
+use lib.ListN.{length, length-map, get_or, set, drop}
 use lib.Ieee.{Float, nan}
 use Rattle.answers.specs.Many.{given_all}
 use Rattle.answers.specs.Answers.{search_number, answers_in}

@@ -1,6 +1,6 @@
 -- 02, request 6: "the table of searches", up to 32 of them; how a search comes to sit in it, and what a list of answers
 -- leaves of it.
-use Rattle.std.specs.Prelude.{ℕ, ◌+◌, ◌≡◌, cond, List, ltb, replicate, set, take, Float}
+use Rattle.std.specs.Prelude.{◌+◌, ◌≡◌, cond, List, ltb, replicate, set, take, Float}
 use Rattle.floats.specs.Arithmetic.{0ᶠ}
 use Rattle.refusals.specs.Results.{Result, value, refused, refuse◌else◌}
 use Rattle.refusals.specs.declared.Refusal.TheVariants.{AlreadyOver}

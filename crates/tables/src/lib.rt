@@ -83,6 +83,7 @@ pub fn empty() -> Table
 }
 
 // A search takes the next seat.
+#[tactic(auto, unfolding(crate::specs::Tables::seated_of))]
 pub fn add(t: Table, s: Seat) -> Seated
     ensures { result ≡ seated_of t s }
 {

@@ -1,15 +1,11 @@
 -- `tables::given` meets its contract: what the answers before i left, with those from i on still to give. Assumes
 -- nothing.
-use mathlib.Core.Path.{◌≡◌, refl, sym, ◌∙◌}
-use mathlib.Core.Bool.{true}
-use Prim.Native.Nat.{◌-◌, ◌%◌, ◌≤◌}
+use mathlib.Core.Path.{refl, sym, ◌∙◌}
 use native.Mathlib.Omega.{arith}
-use lib.ListN.{length, length-set, get_or, drop}
+use lib.ListN.{length-set}
 use lib.Ieee.{nan}
 use borrow.Author.Rules.{rules}
-use Rattle.answers.specs.Answers.{answers_in, all_named}
 use Rattle.answers.proofs.Lists.{named_here, named-later}
-use Rattle.tables.specs.Tables.{given_to}
 use Rattle.tables.proofs.InPlace.{given-step, given-end, unmapped}
 use Rattle.tables.proofs.given.Goals as goal
 
@@ -33,8 +29,7 @@ loop-i-preserved c =
     let xs = c.args.list.now in
     let l = c.loop-i in
     let k = c.number-n.ensures in
-    let named = named_here 32 xs l.i nan (omega arith) l.invariant.2 in
-    (
+    let named = named_here 32 xs l.i nan (omega arith) l.invariant.2 in (
       omega arith,
       omega arith,
       named-later 32 xs l.i nan (omega arith) l.invariant.2,

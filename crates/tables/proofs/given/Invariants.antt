@@ -1,14 +1,11 @@
-use mathlib.Core.Path.{◌≡◌, refl, sym, ◌∙◌}
+-- What holds at each turn of `tables::given`'s loop: what the answers before i left, with those from i on still to
+-- give, is what all of them leave. Assumes nothing.
+use mathlib.Core.Path.{◌≡◌}
 use mathlib.Core.Bool.{true}
 use Prim.Native.Nat.{◌-◌, ◌%◌, ◌≤◌}
-use native.Mathlib.Omega.{arith}
-use lib.ListN.{length, length-set, get_or, drop}
-use lib.Ieee.{nan}
-use borrow.Author.Rules.{rules}
+use lib.ListN.{length, drop}
 use Rattle.answers.specs.Answers.{answers_in, all_named}
-use Rattle.answers.proofs.Lists.{named_here, named-later}
 use Rattle.tables.specs.Tables.{given_to}
-use Rattle.tables.proofs.InPlace.{given-step, given-end, unmapped}
 use Rattle.tables.proofs.given.Given as goal
 
 abbrev pub invariant-loop-i : goal.invariant-loop-i

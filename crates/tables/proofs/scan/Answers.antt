@@ -1,5 +1,4 @@
 -- `tables::scan` meets its contract: what is told of the list decides. Assumes nothing.
-use borrow.Author.Rules.{rules}
 use Rattle.tables.proofs.Scans.{may-be-given, scanned, untouched}
 use Rattle.tables.proofs.scan.Goals as goal
 
