@@ -148,6 +148,7 @@ fn made(
 
 // The answer at the step t, before which `before` iterations were counted and with which there are `now`: refused (2),
 // the end by the condition or by the limit, or the next trial, at t * rho (5).
+#[tactic(auto, unfolding(crate::specs::Machine::tried_of))]
 fn tried(
     s: Setup,
     n: Evaluations,

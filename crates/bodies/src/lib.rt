@@ -95,6 +95,7 @@ pub fn hager_zhang(body: &[u8]) -> HagerZhangStart
 }
 
 // Where it is growing, min and max are not read.
+#[tactic(auto, unfolding(crate::specs::Bodies::way_of))]
 fn way(body: &[u8]) -> Way
     ensures { result ≡ way_of body.now }
 {
