@@ -26,9 +26,8 @@ use Rattle.backtracking.specs.declared.Setup.{Setup}
 use Rattle.backtracking.specs.declared.Stage.{Stage}
 use Rattle.backtracking.specs.declared.Stage.TheVariants.{First, Later, Over}
 use Rattle.backtracking.specs.declared.Backtracking.{Backtracking}
-use Rattle.backtracking.specs.declared.Turn.{Turn}
-use Rattle.backtracking.specs.declared.Started.{Started}
-use Rattle.backtracking.specs.declared.Started.TheVariants.{Began, NoSearch}
+use Rattle.std.specs.Prelude.{Ok, Err}
+use Rattle.backtracking.specs.Machine.{Turn, Started}
 use Rattle.backtracking.specs.Backtracking.{start_rows, setup_of, further, trials, backtracking}
 use Rattle.backtracking.specs.Machine.{made_of, fresh_of, start_of, StartSaid}
 use Rattle.backtracking.specs.Machine.{tried_of, answer_by, answer_of, AnswerSaid}
@@ -129,8 +128,8 @@ module _ (o : Options) (f0 s0 : Float) where
 
   pub starts : (r : Started) → StartSaid o f0 s0 r → Starts o f0 s0 r
   unfolding starting.stands starting.says
-  starts (Began t) e = record { stands-for = ap stands e ∙ start-stands; tells_first = ap says e ∙ start-says }
-  starts (NoSearch k) e = record { stands-for = ap stands e ∙ start-stands; tells_first = ap says e ∙ start-says }
+  starts (Ok t) e = record { stands-for = ap stands e ∙ start-stands; tells_first = ap says e ∙ start-says }
+  starts (Err k) e = record { stands-for = ap stands e ∙ start-stands; tells_first = ap says e ∙ start-says }
 
   -- what `start` promises of its result
   pub start-promised : (r : Started) → StartSaid o f0 s0 r

@@ -3,16 +3,19 @@
 -- proofs/Bridge.antt that every step is the rules' step, and demands/proofs/Backtracking.antt the same for any list of
 -- answers.
 use Rattle.std.specs.Prelude.{◌≡◌, cond, leb, Float}
+use Rattle.std.specs.Prelude as Rust
 use Rattle.std.specs.Float.Ieee.Scale.{finite}
 use Rattle.floats.specs.Arithmetic.{◌⊗◌}
-use Rattle.refusals.specs.Results.{Result, value, refused, refuse◌else◌}
+use Rattle.refusals.specs.Results.{Result, refuse◌else◌}
 use Rattle.runs.specs.declared.Evaluations.{Evaluations}
 use Rattle.runs.specs.declared.Iterations.{Iterations}
 use Rattle.runs.specs.declared.Outcome.{Outcome}
 use Rattle.runs.specs.declared.Outcome.TheVariants.{Ask, Stop, Limit, Refused}
 use Rattle.refusals.specs.declared.Refusal.TheVariants.{SuppliedNotFinite, StepNotFinite, AlreadyOver}
 use Rattle.runs.specs.declared.Verdict.TheVariants.{Met}
-use Rattle.refusals.specs.Refusals.{number_of}
+use Rattle.refusals.specs.declared.Refusal.{Refusal}
+use Rattle.refusals.specs.Refusals.{by_number}
+use Rattle.runs.specs.declared.Turn as Runs
 use Rattle.runs.specs.Counters.{one_more, evaluations, iterations}
 use Rattle.conditions.specs.Conditions.{answer_finite, holds_of}
 use Rattle.backtracking.specs.declared.Options.{Options}
@@ -20,10 +23,14 @@ use Rattle.backtracking.specs.declared.Setup.{Setup}
 use Rattle.backtracking.specs.declared.Stage.{Stage}
 use Rattle.backtracking.specs.declared.Stage.TheVariants.{First, Later, Over}
 use Rattle.backtracking.specs.declared.Backtracking.{Backtracking}
-use Rattle.backtracking.specs.declared.Turn.{Turn}
-use Rattle.backtracking.specs.declared.Started.{Started}
-use Rattle.backtracking.specs.declared.Started.TheVariants.{Began, NoSearch}
 use Rattle.backtracking.specs.Backtracking.{setup_of, start_rows}
+
+-- what the code calls a `Turn`, and what a start gives
+abbrev pub Turn : Type 0
+Turn = Runs.Turn Backtracking
+
+abbrev pub Started : Type 0
+Started = Rust.Result Turn Refusal
 
 abbrev pub made_of : Setup → Evaluations → Iterations → Stage → Outcome → Turn
 made_of s n i stage outcome = record {
@@ -40,14 +47,9 @@ fresh_of s = made_of s (evaluations 0) (iterations 0) First (Ask s.options.alpha
 abbrev pub start_of : Options → Float → Float → Result Turn
 start_of o f0 s0 = refuse (start_rows o f0 s0) else fresh_of (setup_of o f0 s0)
 
--- what each case of `Started` tells, a refusal by 01's number
-abbrev pub started_told : Started → Result Turn
-started_told (Began t) = value t
-started_told (NoSearch k) = refused (number_of k)
-
 -- what `start`'s contract says of its result; proofs/Determined.antt shows that this leaves only one
 abbrev pub StartSaid : Options → Float → Float → Started → Type 0
-StartSaid o f0 s0 r = started_told r ≡ start_of o f0 s0
+StartSaid o f0 s0 r = by_number r ≡ start_of o f0 s0
 
 -- ---- an answer
 

@@ -1,6 +1,6 @@
 -- What a state stands for in 01's rules: the search that is left. And what `start` and `answer` promise in the rules'
 -- terms.
-use Rattle.std.specs.Prelude.{ℕ, ◌-◌, ◌≡◌, Bool, true, false, Float}
+use Rattle.std.specs.Prelude.{ℕ, ◌-◌, ◌≡◌, Bool, true, false, Float, Ok, Err}
 use Rattle.refusals.specs.Results.{Result, value, refused, refuse◌else◌}
 use Rattle.runs.specs.Outcomes.{refusal, already_over, Told, ends, told}
 use Rattle.refusals.specs.Refusals.{number_of}
@@ -11,9 +11,7 @@ use Rattle.backtracking.specs.declared.Setup.{Setup}
 use Rattle.backtracking.specs.declared.Stage.{Stage}
 use Rattle.backtracking.specs.declared.Stage.TheVariants.{First, Later, Over}
 use Rattle.backtracking.specs.declared.Backtracking.{Backtracking}
-use Rattle.backtracking.specs.declared.Turn.{Turn}
-use Rattle.backtracking.specs.declared.Started.{Started}
-use Rattle.backtracking.specs.declared.Started.TheVariants.{Began, NoSearch}
+use Rattle.backtracking.specs.Machine.{Turn, Started}
 use Rattle.backtracking.specs.Backtracking.{start_rows, setup_of, trials, backtracking}
 
 -- i iterations are counted
@@ -33,16 +31,16 @@ is_over Over = true
 -- ---- `start`: the refusal's number, or the search that 01's rules are for the accepted setup
 
 abbrev pub start_told : Started → Result (Rest ℕ)
-start_told (Began r) = value (meant r.search)
-start_told (NoSearch k) = refused (number_of k)
+start_told (Ok r) = value (meant r.search)
+start_told (Err k) = refused (number_of k)
 
 abbrev pub begun : Options → Float → Float → Result (Rest ℕ)
 begun o f0 s0 = refuse (start_rows o f0 s0) else backtracking (setup_of o f0 s0)
 
 -- what a start says: the first step, or the refusal
 abbrev pub start_says : Started → Told
-start_says (Began r) = told r.outcome
-start_says (NoSearch k) = ends (refusal (number_of k))
+start_says (Ok r) = told r.outcome
+start_says (Err k) = ends (refusal (number_of k))
 
 pub record Starts (o : Options) (f0 s0 : Float) (r : Started) : Type 0 where
   pub stands-for : start_told r ≡ begun o f0 s0

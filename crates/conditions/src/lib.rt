@@ -17,23 +17,16 @@ pub enum Condition {
     StrongWolfe { c1: f64, c2: f64 },
 }
 
-// A condition whose constants are in their ranges, or why not.
-#[derive(Clone, Copy)]
-pub enum Checked {
-    Fit(Condition),
-    Unfit(Refusal),
-}
-
 impl Condition {
     // 01, of NaN constants: "we refuse it (2)."
     pub fn constants_finite(self) -> bool
         ensures { result ≡ constants_finite self }
     {
         match self {
-            Condition::Armijo { c } => numbers::is_finite(c),
-            Condition::Goldstein { c } => numbers::is_finite(c),
-            Condition::Wolfe { c1, c2 } => numbers::both_finite(c1, c2),
-            Condition::StrongWolfe { c1, c2 } => numbers::both_finite(c1, c2),
+            Condition::Armijo { c } | Condition::Goldstein { c } => numbers::is_finite(c),
+            Condition::Wolfe { c1, c2 } | Condition::StrongWolfe { c1, c2 } => {
+                numbers::both_finite(c1, c2)
+            }
         }
     }
 
@@ -44,22 +37,23 @@ impl Condition {
         match self {
             Condition::Armijo { c } => (0.0 < c) & (c < 1.0),
             Condition::Goldstein { c } => (0.0 < c) & (c < 0.5),
-            Condition::Wolfe { c1, c2 } => (0.0 < c1) & (c1 < c2) & (c2 < 1.0),
-            Condition::StrongWolfe { c1, c2 } => (0.0 < c1) & (c1 < c2) & (c2 < 1.0),
+            Condition::Wolfe { c1, c2 } | Condition::StrongWolfe { c1, c2 } => {
+                (0.0 < c1) & (c1 < c2) & (c2 < 1.0)
+            }
         }
     }
 
-    // Refusal 2 before refusal 3.
-    pub fn checked(self) -> Checked
+    // The condition, where its constants are in their ranges; or why they are not, refusal 2 before refusal 3.
+    pub fn checked(self) -> Result<Condition, Refusal>
         ensures { CheckedSaid self result }
     {
         if !self.constants_finite() {
-            return Checked::Unfit(Refusal::SuppliedNotFinite);
+            return Err(Refusal::SuppliedNotFinite);
         }
         if !self.in_range() {
-            return Checked::Unfit(Refusal::OutOfRange);
+            return Err(Refusal::OutOfRange);
         }
-        Checked::Fit(self)
+        Ok(self)
     }
 
     // 01: "Only the Wolfe pair needs a slope at t."
@@ -67,10 +61,8 @@ impl Condition {
         ensures { result ≡ needs_slope self }
     {
         match self {
-            Condition::Armijo { c: _ } => false,
-            Condition::Goldstein { c: _ } => false,
-            Condition::Wolfe { c1: _, c2: _ } => true,
-            Condition::StrongWolfe { c1: _, c2: _ } => true,
+            Condition::Armijo { .. } | Condition::Goldstein { .. } => false,
+            Condition::Wolfe { .. } | Condition::StrongWolfe { .. } => true,
         }
     }
 

@@ -1,8 +1,9 @@
 -- 01's table "Numbers in, numbers refused", with what 02 adds: its numbers, its order, and what it means to be refused
 -- by it. The rows, with their "Given exactly when", are filled in by the crates that stand on this one.
-use Rattle.std.specs.Prelude.{ℕ, ◌≡◌, Bool, true, false, cond, List, [], ◌∷◌, map, eqb}
+use Rattle.std.specs.Prelude.{ℕ, ◌≡◌, Bool, true, false, cond, List, [], ◌∷◌, map, eqb, Ok, Err}
+use Rattle.std.specs.Prelude as Rust
 use Rattle.std.proofs.Math.Option.{Option, none, some}
-use Rattle.refusals.specs.Results.{ResultBy, value, refused, RowBy, Row}
+use Rattle.refusals.specs.Results.{ResultBy, Result, value, refused, RowBy, Row}
 use Rattle.refusals.specs.declared.Refusal.{Refusal}
 use Rattle.refusals.specs.declared.Refusal.TheVariants.{
   SuppliedNotFinite,
@@ -27,6 +28,11 @@ number_of StepNotBetween = 7
 number_of AlreadyOver = 8
 number_of NotDownhill = 10
 number_of GrowthsSpent = 11
+
+-- what the code's result tells: its value, or its refusal by the number
+abbrev pub by_number : {A : Type 0} → Rust.Result A Refusal → Result A
+by_number (Ok a) = value a
+by_number (Err k) = refused (number_of k)
 
 -- "8 before all; then 1, 9, 2, 3, 4 in that order"; "6 comes before 5 and 7; 5 comes before 7". 02, request 3: "10,
 -- after 3 and before 4"; "11, before 5". 6 and 11 never meet

@@ -7,7 +7,7 @@ ghost use Rattle.runs.specs.Counters.{one_more, evaluations, iterations};
 
 use refusals::Refusal;
 
-#[derive(Clone, Copy)]
+#[derive(Clone, Copy, Debug, PartialEq, Eq)]
 pub enum Verdict {
     // backtracking: the condition is met
     Met,
@@ -25,6 +25,13 @@ pub enum Outcome {
     Refused(Refusal),
 }
 
+// A search, and what it says: what a start or an answer gives.
+#[derive(Clone, Copy)]
+pub struct Turn<S> {
+    pub search: S,
+    pub outcome: Outcome,
+}
+
 // Finite answers that were accepted.
 #[derive(Clone, Copy)]
 pub struct Evaluations(pub u32);
@@ -38,7 +45,7 @@ pub struct Iterations(pub u32);
 fn one_more(n: u32) -> u32
     ensures { result ≡ one_more n }
 {
-    if n < 4294967295 { n + 1 } else { n }
+    n.saturating_add(1)
 }
 
 impl Evaluations {

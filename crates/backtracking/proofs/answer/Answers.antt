@@ -16,7 +16,7 @@ pub returns-in-Later : goal.returns-in-Later
 unfolding answer_by
 returns-in-Later c =
     let a = c.args in
-    promised a.s (omega arith) a.f a.g _ (rw c.in-Later.is (c.tried-in-Later.ensures ∙ rw c.next-now.ensures))
+    promised a.s (omega arith) a.f a.g _ (rw c.in-Later.is (c.tried-in-Later.ensures ∙ rw c.next.ensures))
 
 pub returns-in-Over : goal.returns-in-Over
 unfolding answer_by
