@@ -2,7 +2,7 @@
 -- so, and else by 6, 5, 7 or 11 at most; and what that leaves (`answered`). Assumes nothing.
 use mathlib.Core.Path.{◌≡◌, refl, sym, ap, ◌∙◌}
 use mathlib.Core.Bool.{true, false, true≢false, false≢true}
-use mathlib.Core.Option.{none-ne-some}
+use Rattle.std.proofs.lemmas.Option.{none-some}
 use Prim.Native.Nat.{ℕ}
 use lib.Ieee.{Float}
 use Rattle.floats.proofs.Branches.{by_cases}
@@ -15,7 +15,7 @@ use Rattle.hagerzhang_steps.specs.declared.state.Waiting.{Waiting}
 use Rattle.hagerzhang_steps.specs.declared.state.Stage.{Stage}
 use Rattle.hagerzhang_steps.specs.declared.state.Stage.TheVariants.{Open, Over}
 use Rattle.hagerzhang.specs.declared.state.Search.{Search}
-use Rattle.hagerzhang.specs.declared.state.Turn.{Turn}
+use Rattle.hagerzhang.specs.Machine.{Turn}
 use Rattle.hagerzhang.specs.Machine.{held_at, taken_of, answer_by, AnswerSaid}
 use Rattle.hagerzhang.specs.Meaning.{is_over, OfTheStep, not-refused}
 use Rattle.hagerzhang.proofs.Answering.{Said, goes_on as asks-on, ended, react-said}
@@ -43,7 +43,7 @@ module _ (s : Search) (f g : Float) where
       (λ e.
       let m = react-said s.setup waiting f g in
       record {
-        early = λ n q. absurd (none-ne-some n (sym (rw (w, e)) ∙ q));
+        early = λ n q. absurd (none-some n (sym (rw (w, e)) ∙ q));
         otherwise = λ q. of-step m;
         unchanged = λ q. absurd (false≢true (sym (ap is_over w) ∙ q));
         over = then-over m;
@@ -53,7 +53,7 @@ module _ (s : Search) (f g : Float) where
       })
       (λ e. record {
         early = λ n q. sym (rw (w, e)) ∙ q;
-        otherwise = λ q. absurd (none-ne-some 2 (sym q ∙ rw (w, e)));
+        otherwise = λ q. absurd (none-some 2 (sym q ∙ rw (w, e)));
         unchanged = λ q. absurd (false≢true (sym (ap is_over w) ∙ q));
         over = λ e q. refl;
         goes_on = λ x q. absurd (asks-not-ends x _ q);
@@ -66,7 +66,7 @@ module _ (s : Search) (f g : Float) where
   by-stage (Open waiting) w = taken waiting w
   by-stage (Over kept) w = record {
     early = λ n q. sym (rw w) ∙ q;
-    otherwise = λ q. absurd (none-ne-some 8 (sym q ∙ rw w));
+    otherwise = λ q. absurd (none-some 8 (sym q ∙ rw w));
     unchanged = λ q. refl;
     over = λ e q. rw w;
     goes_on = λ x q. absurd (asks-not-ends x _ q);

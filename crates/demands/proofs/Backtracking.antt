@@ -4,7 +4,7 @@
 use mathlib.Core.Path.{◌≡◌, refl, sym, ap, ◌∙◌, subst}
 use mathlib.Core.Bool.{true, cond}
 use mathlib.Core.List.{List, [], ◌∷◌, ◌++◌}
-use mathlib.Core.Option.{some}
+use Rattle.std.specs.Prelude.{Some}
 use Prim.Native.Nat.{ℕ, ◌+◌, ◌-◌, ◌≤◌, ◌<◌}
 use native.Mathlib.Omega.{arith}
 use lib.Ieee.{Float, binary64, fits}
@@ -145,7 +145,7 @@ module _ (o : Options) (f0 s0 : Float) (ok : Passed (start_rows o f0 s0)) where
   reached_by ys = reached machine (fresh_of s).search ys
 
   never-five : fits binary64 o.alpha ≡ true → (ys : List Reply) (y : Reply)
-      → refusal_in (told_next machine (fresh_of s).search ys y) ≡ some 5 → ⊥
+      → refusal_in (told_next machine (fresh_of s).search ys y) ≡ Some 5 → ⊥
   unfolding NotFive
   never-five F ys y e =
       five-untold (after (backtracking s) (ys ++ (y ∷ [])))

@@ -3,7 +3,8 @@
 use mathlib.Core.Path.{◌≡◌, refl, sym, ap, ◌∙◌, subst}
 use mathlib.Core.Bool.{true, false, false≢true}
 use mathlib.Core.List.{List}
-use mathlib.Core.Option.{some, none-ne-some}
+use Rattle.std.specs.Prelude.{Some, None}
+use Rattle.std.proofs.lemmas.Option.{none-some}
 use Prim.Native.Nat.{ℕ, zero, suc}
 use lib.Ieee.{Float}
 use lib.Ieee.Scale.{finite}
@@ -20,7 +21,7 @@ use Rattle.hagerzhang_rules.specs.declared.Bracket.{Bracket}
 use Rattle.hagerzhang_rules.specs.declared.Bounds.{Bounds}
 use Rattle.hagerzhang_rules.specs.declared.Way.{Way}
 use Rattle.hagerzhang_rules.specs.declared.Way.TheVariants.{Bounded, Growing}
-use Rattle.hagerzhang_rules.specs.declared.Grown.TheVariants.{TooShort}
+use Rattle.hagerzhang.specs.Machine.{Turn}
 use Rattle.hagerzhang_rules.specs.declared.Options.{Options}
 use Rattle.hagerzhang_rules.specs.declared.Setup.{Setup}
 use Rattle.hagerzhang_rules.specs.Parameters.{level_of, setup_of, start_rows}
@@ -31,7 +32,6 @@ use Rattle.hagerzhang_rules.specs.Iterations.{report_finite}
 use Rattle.hagerzhang_rules.proofs.Ranges.{Accepted, low-below-high, start-finite, start-above, start_fits, some-growth}
 use Rattle.hagerzhang_rules.proofs.Demand3 as rules
 use Rattle.hagerzhang.specs.declared.state.Search.{Search}
-use Rattle.hagerzhang.specs.declared.state.Turn.{Turn}
 use Rattle.hagerzhang.specs.Machine.{fresh_of}
 use Rattle.hagerzhang.specs.Meaning.{meant, is_over, Follows}
 use Rattle.hagerzhang.proofs.Bridge.{follows, starts-whole, first-asked}
@@ -54,7 +54,7 @@ unfolding starting shown
 first_step s e then = refl
 
 second-trial : (s : Setup) (K : ℕ) (then : Point → Bracket → Rest Report) (f g : Float) → answer_finite f g ≡ true
-    → grown_of s.level (zero_of s) (zero_of s) (point s.options.params.start f g) ≡ TooShort
+    → grown_of s.level (zero_of s) (zero_of s) (point s.options.params.start f g) ≡ None
     → finite (5ᶠ ⊗ s.options.params.start) ≡ true
     → shown (respond (starting s (keeping nothing_yet) nothing_yet (Growing (suc K)) then) f g)
     ≡ asks (5ᶠ ⊗ s.options.params.start)
@@ -90,8 +90,8 @@ module _ (o : Options) (f0 s0 : Float) (ok : Accepted o f0 s0) where
     asks-max : told r.outcome ≡ asks e.max
     asks-max = tells-second (Bounded e) is f g r by ∙ second-step s e then f g fine
 
-    no-refusal : (n : ℕ) → refusal_in (told r.outcome) ≡ some n → ⊥
-    no-refusal n q = none-ne-some n (sym (ap refusal_in asks-max) ∙ q)
+    no-refusal : (n : ℕ) → refusal_in (told r.outcome) ≡ Some n → ⊥
+    no-refusal n q = none-some n (sym (ap refusal_in asks-max) ∙ q)
 
     other_step : told r.outcome ≡ told (fresh_of s).outcome → ⊥
     other_step q =
@@ -100,7 +100,7 @@ module _ (o : Options) (f0 s0 : Float) (ok : Accepted o f0 s0) where
         ∙ subst (λ (x : Float). x <ᶠ e.max ≡ true) (sym same) (low-below-high o f0 s0 ok e is))
 
   longer-step : (K : ℕ) → o.way ≡ Growing K → (f g : Float) → answer_finite f g ≡ true
-      → grown_of (level_of o f0) (zero_of s) (zero_of s) (point o.params.start f g) ≡ TooShort
+      → grown_of (level_of o f0) (zero_of s) (zero_of s) (point o.params.start f g) ≡ None
       → finite (5ᶠ ⊗ o.params.start) ≡ true
       → (r : Turn) → Follows b f g r → told r.outcome ≡ asks (5ᶠ ⊗ o.params.start)
   longer-step zero is f g fine short longer r by = absurd (some-growth o f0 s0 ok 0 is refl)

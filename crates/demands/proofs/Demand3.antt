@@ -15,7 +15,7 @@ use Rattle.hagerzhang_rules.specs.Iterations.{EndedBecause, by-limit}
 use Rattle.hagerzhang_rules.proofs.Ranges.{Accepted, most-answers}
 use Rattle.hagerzhang_rules.proofs.Demand3 as rules
 use Rattle.hagerzhang.specs.declared.state.Search.{Search}
-use Rattle.hagerzhang.specs.declared.state.Turn.{Turn}
+use Rattle.hagerzhang.specs.Machine.{Turn}
 use Rattle.hagerzhang.specs.Machine.{fresh_of}
 use Rattle.demands.specs.Runs.{Gave}
 use Rattle.demands.specs.Demand1.{Reason}

@@ -4,7 +4,8 @@
 -- Demand2.antt. Assumes nothing.
 use mathlib.Core.Path.{◌≡◌, refl, sym, ap, ◌∙◌}
 use mathlib.Core.Bool.{true, false, false≢true}
-use mathlib.Core.Option.{some, none-ne-some, some-injective}
+use Rattle.std.specs.Prelude.{Some}
+use Rattle.std.proofs.lemmas.Option.{none-some, same_Some}
 use Prim.Native.Nat.{ℕ}
 use lib.Ieee.{Float, mul, lt, of_bits, of_int}
 use lib.Ieee.Scale.{finite}
@@ -36,14 +37,14 @@ record Waits (s : Setup) (x : Float) (r : Rest ℕ) : Type 0 where
   now : ℕ
   stands : r ≡ trials s left before now x
 
-waits : (s : Setup) (i : ℕ) (stage : Stage) (x : Float) → awaits (meaning s i stage) ≡ some x
+waits : (s : Setup) (i : ℕ) (stage : Stage) (x : Float) → awaits (meaning s i stage) ≡ Some x
     → Waits s x (meaning s i stage)
 unfolding meaning awaits
 waits s i First x e =
-    record { left = _; before = i; now = i; stands = ap (trials s _ _ _) (some-injective _ x e) }
+    record { left = _; before = i; now = i; stands = ap (trials s _ _ _) (same_Some _ x e) }
 waits s i (Later t) x e =
-    record { left = _; before = i; now = one_more i; stands = ap (trials s _ _ _) (some-injective t x e) }
-waits s i Over x e = absurd (none-ne-some x e)
+    record { left = _; before = i; now = one_more i; stands = ap (trials s _ _ _) (same_Some t x e) }
+waits s i Over x e = absurd (none-some x e)
 
 -- what meets `Starts` stands for the first trial
 begun : (o : Options) (f0 s0 : Float) (t : Turn) → Starts o f0 s0 (Began t)
@@ -72,7 +73,7 @@ module _ (s : Setup) (x : Float) (b : Backtracking) (at : Waits s x (meant b)) (
   unfolding is_over
   shut_out = record {
     refusing = λ p q n e.
-        none-ne-some n
+        none-some n
         (sym (ap refusal_in tells ∙ no-refusal s at.now x f g at.left at.before p q) ∙ e);
     same_step = λ differs e. differs (asks-next s at.now x f g at.left at.before x (sym tells ∙ e));
     untouched = λ same.
@@ -84,7 +85,7 @@ pub first-shut-out : (o : Options) (f0 s0 : Float) (t : Turn) → Starts o f0 s0
 first-shut-out o f0 s0 t starts f g r by =
     shut_out (setup_of o f0 s0) o.alpha t.search (begun o f0 s0 t starts).1 f g r by
 
-pub empty-shut-out : (b : Backtracking) (x : Float) → awaits (meant b) ≡ some x → (f g : Float) (r : Turn)
+pub empty-shut-out : (b : Backtracking) (x : Float) → awaits (meant b) ≡ Some x → (f g : Float) (r : Turn)
     → Follows b f g r → EmptyShutOut b.setup x b f g r
 empty-shut-out b x e f g r by = shut_out b.setup x b (waits b.setup b.iterations.0 b.stage x e) f g r by
 

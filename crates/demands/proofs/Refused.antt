@@ -5,7 +5,8 @@
 use mathlib.Core.Path.{◌≡◌, refl, sym, ap, ◌∙◌, subst}
 use mathlib.Core.Bool.{true, false, ◌&&◌}
 use mathlib.Core.List.{List, [], ◌∷◌}
-use mathlib.Core.Option.{Option, some, none, none-ne-some}
+use Rattle.std.specs.Prelude.{Option, Some, None}
+use Rattle.std.proofs.lemmas.Option.{none-some}
 use Prim.Native.Nat.{ℕ}
 use native.Mathlib.Omega.{arith}
 use lib.Dec.{eqb}
@@ -39,7 +40,7 @@ use Rattle.hagerzhang_rules.proofs.Ranges.{Accepted}
 use Rattle.hagerzhang_rules.proofs.UnderWay.{under-way}
 use Rattle.hagerzhang_rules.proofs.EndsInTime.{search-reports}
 use Rattle.hagerzhang_rules.proofs.Demand3 as rules
-use Rattle.hagerzhang.specs.declared.state.Turn.{Turn}
+use Rattle.hagerzhang.specs.Machine.{Turn}
 use Rattle.hagerzhang.specs.Machine.{answer_of, fresh_of}
 use Rattle.hagerzhang.specs.Meaning.{is_over, OfTheStep}
 use Rattle.hagerzhang.proofs.Bridge.{first-asked}
@@ -51,7 +52,7 @@ use Rattle.demands.proofs.Answered.{answered}
 
 -- ---- in U3, from its reasons
 -- U3 stands between one pair of ends
-same_ends : {A : Type 0} (F : Point → Float → A) (h h' : Point) (k k' : Float) → some (On h k) ≡ some (On h' k')
+same_ends : {A : Type 0} (F : Point → Float → A) (h h' : Point) (k k' : Float) → Some (On h k) ≡ Some (On h' k')
     → F h k ≡ F h' k'
 same_ends F h h' k k' e = cc
 
@@ -73,14 +74,14 @@ module _ (s : Setup) (r : Report) (asked : List Point) where
     tells-7 : finite x ≡ true → (h.x <ᶠ x && x <ᶠ k) ≡ false → ends (refusal 7) ≡ told_in_u3 s n h k
     tells-7 f outside = rw (some_left, ← i.steps-to, f, outside)
 
-  module _ (h : Point) (k : Float) (in-U3 : standing s r asked ≡ some (On h k)) where
-    between-them : {h' : Point} {k' : Float} {t : Told} → standing s r asked ≡ some (On h' k')
+  module _ (h : Point) (k : Float) (in-U3 : standing s r asked ≡ Some (On h k)) where
+    between-them : {h' : Point} {k' : Float} {t : Told} → standing s r asked ≡ Some (On h' k')
         → t ≡ told_in_u3 s n h' k' → t ≡ told_in_u3 s n h k
     between-them {h'} {k'} e told = told ∙ same_ends (told_in_u3 s n) h' h k' k (sym e ∙ in-U3)
 
 -- the start's three answers of 01 lead to no U3
 none-of-bounds : (s : Setup) (e : Bounds) → s.options.way ≡ Bounded e → (asked : List Point)
-    → standing s nothing_yet asked ≡ none
+    → standing s nothing_yet asked ≡ None
 unfolding standing
 none-of-bounds s e is [] = refl
 none-of-bounds s e is (d ∷ asked) =
@@ -88,20 +89,20 @@ none-of-bounds s e is (d ∷ asked) =
     ∙ ap (λ (w : Way). tried s w (earlier_of s asked) d) is
 
 tells-asked : (s : Setup) (r : Report) (asked : List Point) (h : Point) (k x : Float)
-    → standing s r asked ≡ some (On h k) → AskedBecause s r asked x → asks x ≡ told_in_u3 s (had s r asked) h k
+    → standing s r asked ≡ Some (On h k) → AskedBecause s r asked x → asks x ≡ told_in_u3 s (had s r asked) h k
 unfolding standing
 tells-asked s r asked h k x in-U3 (of-bounds {e = e} is at f) =
-    absurd (none-ne-some (On h k) (sym (none-of-bounds s e is asked) ∙ in-U3))
-tells-asked s r asked h k x in-U3 (as_first is f) = absurd (none-ne-some (On h k) in-U3)
+    absurd (none-some (On h k) (sym (none-of-bounds s e is asked) ∙ in-U3))
+tells-asked s r asked h k x in-U3 (as_first is f) = absurd (none-some (On h k) in-U3)
 tells-asked s r asked h k x in-U3 (as-longer is stands few f) =
-    absurd (none-ne-some (On h k) (sym stands ∙ in-U3))
+    absurd (none-some (On h k) (sym stands ∙ in-U3))
 tells-asked s r asked h k x in-U3 (as-trial {u = u} e a f) = absurd (to-not-on u h k (sym e ∙ in-U3))
 tells-asked s r asked h k x in-U3 (inside i f strictly) =
     between-them s r asked h k in-U3 i.stands (tells-step s r asked i f strictly)
 
 tells-ended : (s : Setup) (r : Report) (asked : List Point) (h : Point) (k : Float) (e : Ending Why)
     → EndedBecause s r asked e
-    → standing s r asked ≡ some (On h k)
+    → standing s r asked ≡ Some (On h k)
     → OfTheStep (refusal_in (ends (numbered e)))
     → ends (numbered e) ≡ told_in_u3 s (had s r asked) h k
 unfolding standing
@@ -110,7 +111,7 @@ tells-ended s r asked h k e (by-limit {p = p} j i) in-U3 o = absurd (to-not-on p
 tells-ended s r asked h k e (not_finite u) in-U3 o = elim o [ ]
 tells-ended s r asked h k e (trial-not-finite {u = u} t a x) in-U3 o = absurd (to-not-on u h k (sym t ∙ in-U3))
 tells-ended s r asked h k e (growth-not-finite is fine stands few f) in-U3 o =
-    absurd (none-ne-some (On h k) (sym stands ∙ in-U3))
+    absurd (none-some (On h k) (sym stands ∙ in-U3))
 tells-ended s r asked h k e (U3-not-finite i f) in-U3 o =
     between-them s r asked h k in-U3 i.stands (tells-5 s r asked i f)
 tells-ended s r asked h k e (budget-spent t all) in-U3 o =
@@ -118,7 +119,7 @@ tells-ended s r asked h k e (budget-spent t all) in-U3 o =
 tells-ended s r asked h k e (not-between i f outside) in-U3 o =
     between-them s r asked h k in-U3 i.stands (tells-7 s r asked i f outside)
 tells-ended s r asked h k e (growths-spent is fine stands all) in-U3 o =
-    absurd (none-ne-some (On h k) (sym stands ∙ in-U3))
+    absurd (none-some (On h k) (sym stands ∙ in-U3))
 tells-ended s r asked h k e already in-U3 o = elim o [ ]
 
 -- ---- in a start that grows, from its reasons
@@ -126,13 +127,13 @@ same-growths : (K K' : ℕ) → Growing K ≡ Growing K' → K ≡ K'
 same-growths K K' e = cc
 
 module _ (s : Setup) (K : ℕ) (grows : s.options.way ≡ Growing K) (d : Point) (asked : List Point)
-    (stands : standing s nothing_yet (d ∷ asked) ≡ none) where
+    (stands : standing s nothing_yet (d ∷ asked) ≡ None) where
   tells-longer : (x : Float) → AskedBecause s nothing_yet (d ∷ asked) x → asks x ≡ told_too_short K (length asked) d
   tells-longer x (of-bounds {e = e} is at f) = absurd (not-both e K (sym is ∙ grows))
   tells-longer x (as-longer {K = K'} is at few f) =
       let same = same-growths K K' (sym grows ∙ is) in
       rw (ne_eqb (length asked) K (λ (e : length asked ≡ K). omega arith), f)
-  tells-longer x (inside i f strictly) = absurd (none-ne-some _ (sym stands ∙ i.stands))
+  tells-longer x (inside i f strictly) = absurd (none-some _ (sym stands ∙ i.stands))
 
   tells-no-longer : (e : Ending Why) → EndedBecause s nothing_yet (d ∷ asked) e
       → OfTheStep (refusal_in (ends (numbered e))) → ends (numbered e) ≡ told_too_short K (length asked) d
@@ -140,9 +141,9 @@ module _ (s : Setup) (K : ℕ) (grows : s.options.way ≡ Growing K) (d : Point)
   tells-no-longer e (growth-not-finite {K = K'} is fine at few f) o =
       let same = same-growths K K' (sym grows ∙ is) in
       rw (ne_eqb (length asked) K (λ (e : length asked ≡ K). omega arith), f)
-  tells-no-longer e (U3-not-finite i f) o = absurd (none-ne-some _ (sym stands ∙ i.stands))
-  tells-no-longer e (budget-spent t all) o = absurd (none-ne-some _ (sym stands ∙ t))
-  tells-no-longer e (not-between i f outside) o = absurd (none-ne-some _ (sym stands ∙ i.stands))
+  tells-no-longer e (U3-not-finite i f) o = absurd (none-some _ (sym stands ∙ i.stands))
+  tells-no-longer e (budget-spent t all) o = absurd (none-some _ (sym stands ∙ t))
+  tells-no-longer e (not-between i f outside) o = absurd (none-some _ (sym stands ∙ i.stands))
   tells-no-longer e (growths-spent {K = K'} is fine at all) o =
       let same = same-growths K K' (sym grows ∙ is) in
       rw (eq-eqb (length asked) K (omega arith))
@@ -198,7 +199,7 @@ module _ (o : Options) (f0 s0 : Float) (ok : Accepted o f0 s0) where
         subst (λ (q : Told). OfTheStep (refusal_in q)) (told-so ys y)
         ((answered c y.0 y.1 (answer_of c y.0 y.1) refl).otherwise (rw (runs, fine)))
 
-    tells-in-U3 : (h : Point) (k : Float) → standing s (reported (here zs)) (asked zs) ≡ some (On h k)
+    tells-in-U3 : (h : Point) (k : Float) → standing s (reported (here zs)) (asked zs) ≡ Some (On h k)
         → shown (here zs) ≡ told_in_u3 s (had s (reported (here zs)) (asked zs)) h k
     tells-in-U3 h k in-U3 =
         let r = reported (here zs) in
@@ -207,7 +208,7 @@ module _ (o : Options) (f0 s0 : Float) (ok : Accepted o f0 s0) where
         (λ e why o'. tells-ended s r (asked zs) h k e why in-U3 o') step
 
     tells-in-growth : (K : ℕ) → o.way ≡ Growing K → (d : Point) (before : List Point) → reported (here zs) ≡ nothing_yet
-        → asked zs ≡ d ∷ before → standing s nothing_yet (d ∷ before) ≡ none
+        → asked zs ≡ d ∷ before → standing s nothing_yet (d ∷ before) ≡ None
         → shown (here zs) ≡ told_too_short K (length before) d
     tells-in-growth K is d before none_yet list stands =
         told-by zs (told_too_short K (length before) d) (here zs) refl

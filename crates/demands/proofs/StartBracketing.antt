@@ -4,7 +4,8 @@ use mathlib.Core.Path.{◌≡◌, refl, sym, ap, ◌∙◌, subst}
 use mathlib.Core.Bool.{false}
 use mathlib.Core.List.{List, ◌∷◌}
 use mathlib.Core.Logic.{◌⊎◌, inl, inr}
-use mathlib.Core.Option.{some, some-injective}
+use Rattle.std.specs.Prelude.{Some}
+use Rattle.std.proofs.lemmas.Option.{same_Some}
 use Prim.Native.Nat.{ℕ, ◌+◌}
 use native.Mathlib.Omega.{arith}
 use lib.Ieee.{Float}
@@ -29,7 +30,7 @@ use Rattle.hagerzhang_rules.proofs.Ranges.{Accepted}
 use Rattle.hagerzhang_rules.proofs.FirstTrial.{best-of-first}
 use Rattle.hagerzhang_rules.proofs.Demand3 as rules
 use Rattle.hagerzhang.specs.declared.state.Search.{Search}
-use Rattle.hagerzhang.specs.declared.state.Turn.{Turn}
+use Rattle.hagerzhang.specs.Machine.{Turn}
 use Rattle.hagerzhang.specs.Machine.{answer_of, fresh_of}
 use Rattle.hagerzhang.specs.Meaning.{report, is_over, OfTheStep}
 use Rattle.hagerzhang.proofs.Bridge.{first-asked}
@@ -45,7 +46,7 @@ first_step : (s : Setup) (K : ℕ) (then : Point → Bracket → Rest Report)
 unfolding starting shown
 first_step s K then = refl
 
-none-of-8 : OfTheStep (some 8) → ⊥
+none-of-8 : OfTheStep (Some 8) → ⊥
 none-of-8 o = elim o [ ]
 
 stop-not-refusal : {w : Word} {x : Float} {n : ℕ} → stop w x ≡ refusal n → ⊥
@@ -71,7 +72,7 @@ not-8 c f g runs tells =
     by_cases (λ (u : Unit {0}). ⊥) (answer_finite f g) {x = tt} {y = tt}
     (λ fine. none-of-8 (subst OfTheStep (ap refusal_in tells) (said.otherwise (rw (runs, fine)))))
     (λ bad.
-    let two : 2 ≡ 8 = some-injective 2 8 (sym (said.early 2 (rw (runs, bad))) ∙ ap refusal_in tells) in
+    let two : 2 ≡ 8 = same_Some 2 8 (sym (said.early 2 (rw (runs, bad))) ∙ ap refusal_in tells) in
     omega arith)
 
 module _ (o : Options) (f0 s0 : Float) (ok : Accepted o f0 s0) (ys : List Reply) (y : Reply) (n : ℕ) where

@@ -2,7 +2,8 @@
 -- there may be trials; what is told at an answer to one; and 5 never comes. Assumes nothing.
 use mathlib.Core.Path.{◌≡◌, refl}
 use mathlib.Core.Bool.{Bool, true, false, ◌&&◌}
-use mathlib.Core.Option.{none, some, none-ne-some, some-injective}
+use Rattle.std.specs.Prelude.{Some, None}
+use Rattle.std.proofs.lemmas.Option.{none-some, same_Some}
 use Prim.Native.Nat.{ℕ, zero, suc, ◌+◌, ◌≤◌}
 use native.Mathlib.Omega.{arith}
 use lib.Dec.{leb}
@@ -98,7 +99,7 @@ module _ (s : Setup) (now : ℕ) (x f g : Float) where
 
   -- no refusal, where the answer and the next step are finite
   abbrev Unrefused : Rest ℕ → Type 0
-  Unrefused r = refusal_in (shown r) ≡ none
+  Unrefused r = refusal_in (shown r) ≡ None
 
   further-unrefused : (n : ℕ) → finite shorter ≡ true → Unrefused (further s n now x)
   unfolding further shown
@@ -146,10 +147,10 @@ module _ (s : Setup) (now : ℕ) (x f g : Float) where
 
 -- ---- 5 never comes: a finite step shrinks to a finite step
 unfoldable pub NotFive : Ending Why → Type 0
-NotFive e = refusal_in (ends (numbered e)) ≡ some 5 → ⊥
+NotFive e = refusal_in (ends (numbered e)) ≡ Some 5 → ⊥
 
-pub other-number : (n : ℕ) → (n ≡ 5 → ⊥) → some n ≡ some 5 → ⊥
-other-number n differs e = differs (some-injective n 5 e)
+pub other-number : (n : ℕ) → (n ≡ 5 → ⊥) → Some n ≡ Some 5 → ⊥
+other-number n differs e = differs (same_Some n 5 e)
 
 module _ (s : Setup) (ok : in_ranges s.options ≡ true) where
   abbrev rho : Float
@@ -160,13 +161,13 @@ module _ (s : Setup) (ok : in_ranges s.options ≡ true) where
   unfolding NotFive
   tested-not-five before now t r e =
       it-asks (λ f g. by_cases (EndsBy NotFive) (is_finite s t f g)
-      (λ a. by_cases (EndsBy NotFive) (holds s t f g) (λ h. it-ends (none-ne-some 5)) (λ h. e))
+      (λ a. by_cases (EndsBy NotFive) (holds s t f g) (λ h. it-ends (none-some 5)) (λ h. e))
       (λ a. it-ends (other-number 2 (λ e. omega arith))))
 
   further-not-five : (n now : ℕ) (t : Float) → fits binary64 t ≡ true → finite t ≡ true
       → EndsBy NotFive (further s n now t)
   unfolding further NotFive
-  further-not-five zero now t F p = it-ends (none-ne-some 5)
+  further-not-five zero now t F p = it-ends (none-some 5)
   further-not-five (suc n) now t F p =
       let q = times-below-one t rho F p (rho-above-zero s.options ok) (rho-below-one s.options ok) in
       let F' = is_true _ (mul-fits binary64 t rho) in
@@ -176,7 +177,7 @@ module _ (s : Setup) (ok : in_ranges s.options ≡ true) where
       → EndsBy NotFive (trials s n before now t)
   not_five n before now t F p = tested-not-five before now t _ (further-not-five n now t F p)
 
-pub five-untold : (r : Rest ℕ) → EndsBy NotFive r → refusal_in (shown r) ≡ some 5 → ⊥
+pub five-untold : (r : Rest ℕ) → EndsBy NotFive r → refusal_in (shown r) ≡ Some 5 → ⊥
 unfolding shown NotFive
-five-untold (ask k x then) h e = none-ne-some 5 e
+five-untold (ask k x then) h e = none-some 5 e
 five-untold (end o) (it-ends h) e = h e

@@ -2,7 +2,8 @@
 -- specs/Backtracking.antt, and leaves what is said there (`answered`). Assumes nothing.
 use mathlib.Core.Path.{◌≡◌, refl, sym, ap, ◌∙◌}
 use mathlib.Core.Bool.{Bool, true, false, cond, not, false≢true}
-use mathlib.Core.Option.{none, some, none-ne-some}
+use Rattle.std.specs.Prelude.{Some, None}
+use Rattle.std.proofs.lemmas.Option.{none-some}
 use Prim.Native.Nat.{ℕ}
 use lib.Dec.{leb}
 use lib.Ieee.{Float}
@@ -77,7 +78,7 @@ module _ (b : Backtracking) (f g : Float) (stage : Stage) (w : b.stage ≡ stage
   runs = ap is_over w ∙ o
 
   rows : given (trials_rows b f g)
-      ≡ cond (not fine) (some 2) (cond (is_not_finite (next_trial s now.0 t f g)) (some 5) none)
+      ≡ cond (not fine) (Some 2) (cond (is_not_finite (next_trial s now.0 t f g)) (Some 5) None)
   unfolding given
   rows = rw (runs, ap (λ (at : Stage). trial_due b at f g) w ∙ due)
 
@@ -90,7 +91,7 @@ module _ (b : Backtracking) (f g : Float) (stage : Stage) (w : b.stage ≡ stage
   comes : (a : Bool) → fine ≡ a → (i : Iterations) (at : Stage) (out : Outcome)
       → refusal_in (told out) ≡ given (trials_rows b f g)
       → ((e : Ending ℕ) → told out ≡ ends e → is_over at ≡ true)
-      → ((n : ℕ) → refusal_in (told out) ≡ some n → i.0 ≡ trials_kept b b.stage f g)
+      → ((n : ℕ) → refusal_in (told out) ≡ Some n → i.0 ≡ trials_kept b b.stage f g)
       → Tried b f g (made_of s (evaluations (cond a (one_more b.evaluations.0) b.evaluations.0)) i at out)
   unfolding is_in_order
   comes a e i at out by over keeps = record {
@@ -107,11 +108,11 @@ module _ (b : Backtracking) (f g : Float) (stage : Stage) (w : b.stage ≡ stage
       (λ a. comes false a b.iterations Over (Refused SuppliedNotFinite) (rw (rows, a)) (λ e q. refl)
       (λ n q. keeps-if false a))
       (λ a h. comes true a now Over (Stop Met t) (rw (rows, a, h)) (λ e q. refl)
-      (λ n q. absurd (none-ne-some n q)))
+      (λ n q. absurd (none-some n q)))
       (λ a h l. comes true a now Over (Limit t) (rw (rows, a, h, l)) (λ e q. refl)
-      (λ n q. absurd (none-ne-some n q)))
+      (λ n q. absurd (none-some n q)))
       (λ a h l x. comes true a now (Later _) (Ask _) (rw (rows, a, h, l, x))
-      (λ e q. absurd (asks-not-ends _ e (sym q))) (λ n q. absurd (none-ne-some n q)))
+      (λ e q. absurd (asks-not-ends _ e (sym q))) (λ n q. absurd (none-some n q)))
       (λ a h l x. comes true a now Over (Refused StepNotFinite) (rw (rows, a, h, l, x)) (λ e q. refl)
       (λ n q. keeps-if true a))
 

@@ -10,7 +10,7 @@ use Rattle.hagerzhang_rules.specs.Parameters.{setup_of}
 use Rattle.hagerzhang_rules.specs.Rules.{hager_zhang}
 use Rattle.hagerzhang_rules.specs.ZeroSlope.{formerly, Alike}
 use Rattle.hagerzhang_rules.proofs.ZeroSlope.{zero-slope as of-rules}
-use Rattle.hagerzhang.specs.declared.state.Turn.{Turn}
+use Rattle.hagerzhang.specs.Machine.{Turn}
 use Rattle.demands.specs.Runs.{Gave}
 use Rattle.demands.specs.ZeroSlope.{AsBefore, ZeroSlope}
 use Rattle.demands.proofs.Demand2.{demand2}

@@ -2,8 +2,7 @@
 -- out; and, of a search that `start` gave, t, for every list of answers, that it is 01's, that it ends, and what it
 -- counts.
 use Rattle.std.specs.Prelude.{ℕ, ◌+◌, ◌-◌, ◌≤◌, ◌≡◌, Bool, true, false, cond, not, ◌||◌, List, [], ◌∷◌, leb, length}
-use Rattle.std.specs.Prelude.{Float}
-use Rattle.std.proofs.Math.Option.{Option, none, some}
+use Rattle.std.specs.Prelude.{Float, Option, Some, None}
 use Rattle.std.specs.Float.{binary64}
 use Rattle.std.specs.Float.Ieee.{fits}
 use Rattle.std.specs.Float.Ieee.Scale.{finite}
@@ -34,17 +33,17 @@ use Rattle.backtracking.specs.Meaning.{meant, is_over, Starts, Follows}
 -- fewer than N
 abbrev pub next_trial : Setup → ℕ → Float → Float → Float → Option Float
 next_trial s now t f g =
-    cond (holds_of s.options.condition s.f0 s.s0 t f g || leb s.options.limit now) none
-    (some (t ⊗ s.options.rho))
+    cond (holds_of s.options.condition s.f0 s.s0 t f g || leb s.options.limit now) None
+    (Some (t ⊗ s.options.rho))
 
 abbrev pub trial_due : Backtracking → Stage → Float → Float → Option Float
 trial_due b First f g = next_trial b.setup b.iterations.0 b.setup.options.alpha f g
 trial_due b (Later t) f g = next_trial b.setup (one_more b.iterations.0) t f g
-trial_due b Over f g = none
+trial_due b Over f g = None
 
 abbrev pub is_not_finite : Option Float → Bool
-is_not_finite none = false
-is_not_finite (some x) = not (finite x)
+is_not_finite None = false
+is_not_finite (Some x) = not (finite x)
 
 -- 8, 2, 5
 abbrev pub trials_rows : Backtracking → Float → Float → List Row
@@ -70,7 +69,7 @@ pub record Tried (b : Backtracking) (f g : Float) (r : Turn) : Type 0 where
   pub unchanged : is_over b.stage ≡ true → r.search ≡ b
   -- 2, 5: "search over", as after a stop and the limit, with the iterations "from before that trial"
   pub over : (e : Ending ℕ) → told r.outcome ≡ ends e → is_over r.search.stage ≡ true
-  pub keeps : (n : ℕ) → refusal_in (told r.outcome) ≡ some n → r.search.iterations.0 ≡ trials_kept b b.stage f g
+  pub keeps : (n : ℕ) → refusal_in (told r.outcome) ≡ Some n → r.search.iterations.0 ≡ trials_kept b b.stage f g
   -- "Evaluations count every finite answer accepted"
   pub counts : r.search.evaluations.0
       ≡ cond (is_over b.stage) b.evaluations.0
@@ -81,7 +80,7 @@ pub record Tried (b : Backtracking) (f g : Float) (r : Turn) : Type 0 where
 -- again
 pub record EmptyShutOut (s : Setup) (x : Float) (b : Backtracking) (f g : Float) (r : Turn) : Type 0 where
   pub refusing : answer_finite s.options.condition f g ≡ true → finite (x ⊗ s.options.rho) ≡ true
-      → (n : ℕ) → refusal_in (told r.outcome) ≡ some n → ⊥
+      → (n : ℕ) → refusal_in (told r.outcome) ≡ Some n → ⊥
   pub same_step : (x ⊗ s.options.rho ≡ x → ⊥) → told r.outcome ≡ asks x → ⊥
   pub untouched : r.search ≡ b → ⊥
 
@@ -114,7 +113,7 @@ module _ (o : Options) (f0 s0 : Float) (t : Turn) where
   pub record Searches : Type 0 where
     -- demand 1: 5 never comes, since a finite step times a rho below 1 is finite (alpha is an f64)
     pub never-five : fits binary64 o.alpha ≡ true → (ys : List Reply) (y : Reply)
-        → refusal_in (told_next machine t.search ys y) ≡ some 5 → ⊥
+        → refusal_in (told_next machine t.search ys y) ≡ Some 5 → ⊥
     -- demand 2: what is told first and after each answer, and the iterations held, are those of 01's rules
     pub first-ask : told t.outcome ≡ shown rules
     pub outcomes-are-rules : (ys : List Reply) → played machine t.search ys ≡ outcomes rules ys
@@ -139,7 +138,7 @@ pub record BacktrackingDemands : Type 0 where
   -- what meets the rules is no empty program: at the first answer, and in any state that awaits one
   pub first-shut-out : (o : Options) (f0 s0 : Float) (t : Turn) → Starts o f0 s0 (Began t) → (f g : Float) (r : Turn)
       → Follows t.search f g r → EmptyShutOut (setup_of o f0 s0) o.alpha t.search f g r
-  pub empty-shut-out : (b : Backtracking) (x : Float) → awaits (meant b) ≡ some x → (f g : Float) (r : Turn)
+  pub empty-shut-out : (b : Backtracking) (x : Float) → awaits (meant b) ≡ Some x → (f g : Float) (r : Turn)
       → Follows b f g r → EmptyShutOut b.setup x b f g r
   -- "Backtracking asks alpha, tests, then alpha*rho": a finite first answer does not meet the condition
   pub second-ask : (o : Options) (f0 s0 : Float) (t : Turn) → Starts o f0 s0 (Began t) → (f g : Float)

@@ -2,8 +2,7 @@
 -- after the end are refused by number. Document 01 fixes each refusal, the state after it and any lent buffer." Every
 -- public function is total by its contract; here is what each refuses, of vectors at which index, and what a refusal
 -- leaves.
-use Rattle.std.specs.Prelude.{ℕ, ◌≡◌, true, false, cond, not, ◌&&◌, List, [], ◌∷◌, eqb, length, Float}
-use Rattle.std.proofs.Math.Option.{some, none}
+use Rattle.std.specs.Prelude.{ℕ, ◌≡◌, true, false, cond, not, ◌&&◌, List, [], ◌∷◌, eqb, length, Float, Some, None}
 use Rattle.std.specs.Float.Ieee.Scale.{finite}
 use Rattle.floats.specs.Arithmetic.{◌<ᶠ◌}
 use Rattle.refusals.specs.Results.{value, refused, Row}
@@ -42,9 +41,8 @@ use Rattle.jobs.specs.declared.Reading.{Reading}
 use Rattle.jobs.specs.Reader.{read_told, ReadSaid}
 use Rattle.jobs.specs.declared.Opened.{Opened}
 use Rattle.jobs.specs.Opening.{job_rows, opened_told, BeginSaid}
-use Rattle.hagerzhang.specs.declared.state.Started.{Started}
+use Rattle.hagerzhang.specs.Machine.{Turn, Started}
 use Rattle.hagerzhang.specs.declared.state.Search.{Search}
-use Rattle.hagerzhang.specs.declared.state.Turn.{Turn}
 use Rattle.hagerzhang.specs.Machine.{started_told, StartSaid, AnswerSaid}
 use Rattle.hagerzhang.specs.Meaning.{report, is_over, OfTheStep}
 use Rattle.demands.specs.Runs.{Gave, reached_by, told_after, and_then, points_asked}
@@ -57,8 +55,8 @@ early_rows s f g = (8, is_over s.stage) ∷ (2, not (answer_finite f g)) ∷ []
 
 pub record Answered (s : Search) (f g : Float) (r : Turn) : Type 0 where
   -- 8 and 2, exactly when; where neither holds, none, or one of the step that would be next
-  pub early : (n : ℕ) → given (early_rows s f g) ≡ some n → refusal_in (told r.outcome) ≡ some n
-  pub otherwise : given (early_rows s f g) ≡ none → OfTheStep (refusal_in (told r.outcome))
+  pub early : (n : ℕ) → given (early_rows s f g) ≡ Some n → refusal_in (told r.outcome) ≡ Some n
+  pub otherwise : given (early_rows s f g) ≡ None → OfTheStep (refusal_in (told r.outcome))
   -- 8: "state unchanged"
   pub unchanged : is_over s.stage ≡ true → r.search ≡ s
   -- 2, 5, 6, 7, 11: "search over"; a stop and the limit end it too, and nothing else does
@@ -112,7 +110,7 @@ module _ (o : Options) (f0 s0 : Float) (t : Turn) where
     pub in-U3 : (ys : List Reply) (y : Reply) → is_over (reached_by b ys).stage ≡ false
         → answer_finite y.0 y.1 ≡ true
         → (h : Point) (k : Float)
-        → standing s (report (reached_by b (and_then ys y))) (points_asked b (and_then ys y)) ≡ some (On h k)
+        → standing s (report (reached_by b (and_then ys y))) (points_asked b (and_then ys y)) ≡ Some (On h k)
         → told_after b ys y
         ≡ told_in_u3 s (had s (report (reached_by b (and_then ys y))) (points_asked b (and_then ys y))) h k
     -- 11 and 5 of a start that grows, both ways and in this order: where a finite answer leaves it growing
@@ -121,7 +119,7 @@ module _ (o : Options) (f0 s0 : Float) (t : Turn) where
         → answer_finite y.0 y.1 ≡ true
         → report (reached_by b (and_then ys y)) ≡ nothing_yet
         → (d : Point) (asked : List Point) → points_asked b (and_then ys y) ≡ d ∷ asked
-        → standing s nothing_yet (d ∷ asked) ≡ none
+        → standing s nothing_yet (d ∷ asked) ≡ None
         → told_after b ys y ≡ told_too_short K (length asked) d
     -- every step that is asked, the first too, is finite, and comes for its reason; in U3 it is strictly between its
     -- ends
@@ -172,6 +170,6 @@ pub record Demand1 : Type 0 where
   pub answer : (s : Search) (f g : Float) (r : Turn) → AnswerSaid s f g r → Answered s f g r
   pub curve-answer : (s : Search) (c : Curve) (x : Float) (r : Turn) → AnswerSaid s (value_of c x) (slope_of c x) r
       → is_over s.stage ≡ false → answer_finite (value_of c x) (slope_of c x) ≡ false
-      → refusal_in (told r.outcome) ≡ some 2
+      → refusal_in (told r.outcome) ≡ Some 2
   -- 2, 5, 6, 7, 11, of any search that `start` gave
   pub search-given : (o : Options) (f0 s0 : Float) (t : Turn) → Gave o f0 s0 t → RefusedRightly o f0 s0 t

@@ -5,8 +5,7 @@
 -- Of S2 to S4 request 4: "Demands 2 and 3 read the mended rule."
 -- (Backtracking: specs/Backtracking.antt. Equal to the Rust's: run and compared, README; of the start of three answers
 -- alone.)
-use Rattle.std.specs.Prelude.{ℕ, ◌<◌, ◌≡◌, true, false, List, Float}
-use Rattle.std.proofs.Math.Option.{some}
+use Rattle.std.specs.Prelude.{ℕ, ◌<◌, ◌≡◌, true, false, List, Float, Some, None, Err}
 use Rattle.std.specs.Float.Ieee.{is_nan}
 use Rattle.std.specs.Float.Ieee.Scale.{finite}
 use Rattle.floats.specs.Arithmetic.{◌⊗◌, 5ᶠ}
@@ -16,7 +15,7 @@ use Rattle.runs.specs.Asking.{Rest, end_with, Reply, shown, reported, awaits, ou
 use Rattle.runs.specs.Outcomes.{refusal_in}
 use Rattle.hagerzhang_rules.specs.declared.Bounds.{Bounds}
 use Rattle.hagerzhang_rules.specs.declared.Way.TheVariants.{Bounded, Growing}
-use Rattle.hagerzhang_rules.specs.declared.Grown.TheVariants.{TooShort}
+use Rattle.hagerzhang.specs.Machine.{Turn}
 use Rattle.hagerzhang_rules.specs.declared.Options.{Options}
 use Rattle.hagerzhang_rules.specs.declared.Setup.{Setup}
 use Rattle.hagerzhang_rules.specs.Parameters.{level_of, setup_of}
@@ -26,8 +25,6 @@ use Rattle.curves.specs.declared.Curve.{Curve}
 use Rattle.jobs.specs.declared.Opened.TheVariants.{Begun}
 use Rattle.jobs.specs.Opening.{BeginSaid}
 use Rattle.hagerzhang.specs.declared.state.Search.{Search}
-use Rattle.hagerzhang.specs.declared.state.Turn.{Turn}
-use Rattle.hagerzhang.specs.declared.state.Started.TheVariants.{NoSearch}
 use Rattle.hagerzhang.specs.Machine.{awaited_of, AnswerSaid}
 use Rattle.hagerzhang.specs.Meaning.{report, is_over, due_told, Starts, Follows}
 use Rattle.demands.specs.Runs.{Gave, reached_by, told_by}
@@ -55,14 +52,14 @@ module _ (o : Options) (f0 s0 : Float) (t : Turn) where
     pub report-finite : (ys : List Reply) → report_finite (report (reached_by t.search ys)) ≡ true
     -- 01's empty programs break this: "One that refuses everything, one that asks the same step each time, and one that
     -- hands the state back untouched", at a start, at the first answer, or at any
-    pub refusing-start-shut-out : (k : Refusal) → Starts o f0 s0 (NoSearch k) → ⊥
+    pub refusing-start-shut-out : (k : Refusal) → Starts o f0 s0 (Err k) → ⊥
     pub refusing-shut-out : (e : Bounds) → o.way ≡ Bounded e → (f g : Float) → answer_finite f g ≡ true → (r : Turn)
-        → Follows t.search f g r → (n : ℕ) → refusal_in (told r.outcome) ≡ some n → ⊥
+        → Follows t.search f g r → (n : ℕ) → refusal_in (told r.outcome) ≡ Some n → ⊥
     pub same-step-shut-out : (e : Bounds) → o.way ≡ Bounded e → (f g : Float) → answer_finite f g ≡ true → (r : Turn)
         → Follows t.search f g r → told r.outcome ≡ told t.outcome → ⊥
     -- of a start that grows: a first trial that is too short is followed by another step, 5 times as long
     pub longer-step : (K : ℕ) → o.way ≡ Growing K → (f g : Float) → answer_finite f g ≡ true
-        → grown_of (level_of o f0) (zero_of s) (zero_of s) (point o.params.start f g) ≡ TooShort
+        → grown_of (level_of o f0) (zero_of s) (zero_of s) (point o.params.start f g) ≡ None
         → finite (5ᶠ ⊗ o.params.start) ≡ true
         → (r : Turn) → Follows t.search f g r → told r.outcome ≡ asks (5ᶠ ⊗ o.params.start)
     pub another-step : (K : ℕ) → o.way ≡ Growing K → finite (5ᶠ ⊗ o.params.start) ≡ true

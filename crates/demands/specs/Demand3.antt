@@ -14,7 +14,7 @@ use Rattle.hagerzhang_rules.specs.Rules.{point, Summary, Report, nothing_yet, la
 use Rattle.hagerzhang_rules.specs.Brackets.{premise, Ordered}
 use Rattle.hagerzhang_rules.specs.Iterations.{most_in_start, most_in_iteration, most_ever, Whole, Brings}
 use Rattle.hagerzhang.specs.declared.state.Search.{Search}
-use Rattle.hagerzhang.specs.declared.state.Turn.{Turn}
+use Rattle.hagerzhang.specs.Machine.{Turn}
 use Rattle.hagerzhang.specs.Meaning.{report, is_over}
 use Rattle.demands.specs.Runs.{Gave, reached_by, told_after, and_then, finite_by, not_finite_by, points_asked, asked_at}
 use Rattle.demands.specs.Runs.{finished_by}

@@ -8,7 +8,7 @@ use Rattle.hagerzhang_rules.specs.declared.Options.{Options}
 use Rattle.hagerzhang_rules.specs.Parameters.{setup_of}
 use Rattle.hagerzhang_rules.specs.Rules.{Summary, last}
 use Rattle.hagerzhang_rules.specs.HowFast.{Guarantees}
-use Rattle.hagerzhang.specs.declared.state.Turn.{Turn}
+use Rattle.hagerzhang.specs.Machine.{Turn}
 use Rattle.hagerzhang.specs.Meaning.{report}
 use Rattle.demands.specs.Runs.{Gave, reached_by, and_then, asked_at}
 

@@ -32,7 +32,7 @@ use Rattle.tables.specs.Tables.{searches_in, empty_table, seated_of, given_to, s
 use Rattle.hagerzhang_rules.specs.declared.Options.{Options}
 use Rattle.hagerzhang_rules.specs.Parameters.{setup_of}
 use Rattle.hagerzhang_rules.specs.Rules.{hager_zhang}
-use Rattle.hagerzhang.specs.declared.state.Turn.{Turn}
+use Rattle.hagerzhang.specs.Machine.{Turn}
 use Rattle.hagerzhang.specs.Meaning.{report}
 use Rattle.backtracking.specs.declared.Options.{Options as TrialOptions}
 use Rattle.backtracking.specs.declared.Turn.{Turn as TrialTurn}

@@ -21,7 +21,7 @@ use Rattle.hagerzhang_rules.specs.declared.Options.{Options}
 use Rattle.hagerzhang_rules.specs.Parameters.{bounds, in_ranges}
 use Rattle.hagerzhang_rules.specs.Rules.{EPS, iterations_in}
 use Rattle.hagerzhang_rules.specs.Iterations.{most_in_start, most_in_iteration, most_ever}
-use Rattle.hagerzhang.specs.declared.state.Turn.{Turn}
+use Rattle.hagerzhang.specs.Machine.{Turn}
 use Rattle.hagerzhang.specs.Machine.{start_of}
 use Rattle.hagerzhang.specs.Meaning.{report, is_over}
 use Rattle.demands.specs.Runs.{Gave, reached_by, told_after, and_then, finite_by, not_finite_by, points_asked, asked_at}

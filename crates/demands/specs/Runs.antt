@@ -1,7 +1,6 @@
 -- A Hager-Zhang search of the machine, along any answers: the state that is reached, what is told, what was asked in
 -- the start or the iteration under way, and what is counted. `answer_of` is what `answer` gives, by its contract.
-use Rattle.std.specs.Prelude.{ℕ, ◌+◌, ◌≡◌, cond, not, List, [], ◌∷◌, ◌++◌, ltb, Float}
-use Rattle.std.proofs.Math.Option.{Option, some, none}
+use Rattle.std.specs.Prelude.{ℕ, ◌+◌, ◌≡◌, cond, not, List, [], ◌∷◌, ◌++◌, ltb, Float, Option, Some, None}
 use Rattle.refusals.specs.Results.{value}
 use Rattle.runs.specs.Outcomes.{Told, told}
 use Rattle.runs.specs.Asking.{Reply, Machine, reached, played, told_next, tallied}
@@ -10,7 +9,7 @@ use Rattle.hagerzhang_rules.specs.declared.Options.{Options}
 use Rattle.hagerzhang_rules.specs.Rules.{point, answer_finite, iterations_in}
 use Rattle.hagerzhang_rules.specs.Iterations.{progress, F64s}
 use Rattle.hagerzhang.specs.declared.state.Search.{Search}
-use Rattle.hagerzhang.specs.declared.state.Turn.{Turn}
+use Rattle.hagerzhang.specs.Machine.{Turn}
 use Rattle.hagerzhang.specs.Machine.{start_of, awaited_of, answer_of}
 use Rattle.hagerzhang.specs.Meaning.{report, is_over, due_told}
 
@@ -50,8 +49,8 @@ not_finite_by s ys = tallied machine (λ f g. not (answer_finite f g)) s ys
 -- the points asked in the start or the iteration under way, with their answers, newest first: an answer that brings the
 -- report further finishes it, and the next begins with nothing asked
 abbrev pub note : Option Float → Reply → List Point → List Point
-note (some x) y asked = point x y.0 y.1 ∷ asked
-note none y asked = asked
+note (Some x) y asked = point x y.0 y.1 ∷ asked
+note None y asked = asked
 
 abbrev pub note_by : Search → Reply → List Point → List Point
 note_by s y asked = note (due_told (awaited_of s)) y asked

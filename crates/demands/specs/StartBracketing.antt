@@ -14,7 +14,7 @@ use Rattle.hagerzhang_rules.specs.Rules.{point, best_of, Summary, nothing_yet, l
 use Rattle.hagerzhang_rules.specs.Brackets.{premise, Ordered, Within}
 use Rattle.hagerzhang_rules.specs.Iterations.{Opens}
 use Rattle.hagerzhang.specs.declared.state.Search.{Search}
-use Rattle.hagerzhang.specs.declared.state.Turn.{Turn}
+use Rattle.hagerzhang.specs.Machine.{Turn}
 use Rattle.hagerzhang.specs.Meaning.{report, is_over}
 use Rattle.demands.specs.Runs.{Gave, reached_by, told_after, and_then, points_asked, asked_at}
 

@@ -2,8 +2,7 @@
 -- bounds, and a test shows that their output is unchanged." For any bytes s, `stored_jobs::with_bounds` writes
 -- `kept_of s`. Here is what that is, and that it says what s said. `job_by d` is what bytes say where d are the
 -- defaults, and the first two fields tie it to 01's format; `job_of` and `output_of` are those of today's defaults.
-use Rattle.std.specs.Prelude.{ℕ, ◌≤◌, ◌<◌, ◌≡◌, List, length}
-use Rattle.std.proofs.Math.Option.{some}
+use Rattle.std.specs.Prelude.{ℕ, ◌≤◌, ◌<◌, ◌≡◌, List, length, Some}
 use Rattle.refusals.specs.Results.{value, refused}
 use Rattle.hagerzhang_rules.specs.declared.Options.{Options}
 use Rattle.fields.specs.Fields.{Field}
@@ -23,7 +22,7 @@ pub record StoredJobs : Type 0 where
   pub job-kept : (s : List ℕ) (fs : List Field) (j : Job) → WellFormed 0 fs s → means_of fs ≡ value j
       → kept_of s ≡ bytes_of (with_bounds fs)
   -- what has a field 2, and whatever is no job, is byte for byte what it was
-  pub bounds-stay : (s : List ℕ) (fs : List Field) (body : List ℕ) → WellFormed 0 fs s → body_under 2 fs ≡ some body
+  pub bounds-stay : (s : List ℕ) (fs : List Field) (body : List ℕ) → WellFormed 0 fs s → body_under 2 fs ≡ Some body
       → kept_of s ≡ s
   pub no-job-stays : (s : List ℕ) → ((fs : List Field) (j : Job) → WellFormed 0 fs s → means_of fs ≡ value j → ⊥)
       → kept_of s ≡ s

@@ -9,7 +9,7 @@ use Rattle.hagerzhang_rules.specs.declared.Setup.{Setup}
 use Rattle.hagerzhang_rules.specs.Parameters.{setup_of}
 use Rattle.hagerzhang_rules.specs.Rules.{hager_zhang}
 use Rattle.hagerzhang_rules.specs.ZeroSlope.{formerly, marked, Parts}
-use Rattle.hagerzhang.specs.declared.state.Turn.{Turn}
+use Rattle.hagerzhang.specs.Machine.{Turn}
 use Rattle.hagerzhang.specs.Machine.{awaited_of}
 use Rattle.hagerzhang.specs.Meaning.{report, due_told}
 use Rattle.demands.specs.Runs.{Gave, reached_by, told_by}

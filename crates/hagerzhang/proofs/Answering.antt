@@ -2,7 +2,6 @@
 -- evaluation, and what a state holds is what the rules that it stands for report. Assumes nothing.
 use mathlib.Core.Path.{◌≡◌, refl, sym, ap, ◌∙◌}
 use mathlib.Core.Bool.{Bool, true, false, cond, ◌&&◌}
-use mathlib.Core.Option.{some}
 use Prim.Native.Nat.{ℕ}
 use lib.Dec.{eqb}
 use lib.Ieee.{Float}
@@ -21,20 +20,17 @@ use Rattle.hagerzhang_rules.specs.declared.Setup.{Setup}
 use Rattle.hagerzhang_rules.specs.declared.Point.{Point}
 use Rattle.hagerzhang_rules.specs.declared.Came.{Came}
 use Rattle.hagerzhang_rules.specs.declared.Came.TheVariants.{To, On}
-use Rattle.hagerzhang_rules.specs.declared.Grown.{Grown}
-use Rattle.hagerzhang_rules.specs.declared.Grown.TheVariants.{Enough, TooShort}
+use Rattle.std.specs.Prelude.{Option, Some, None, Ok, Err}
+use Rattle.std.specs.Prelude as Rust
+use Rattle.hagerzhang.specs.Machine.{Turn}
 use Rattle.hagerzhang_rules.specs.Rules.{answer_finite, middle_of, longer_of}
 use Rattle.hagerzhang_steps.specs.declared.state.Finished.{Finished}
 use Rattle.hagerzhang_steps.specs.declared.moves.Move.{Move}
 use Rattle.hagerzhang_steps.specs.declared.moves.Move.TheVariants.{Try, Narrow, ByVerdict, ByLimit}
-use Rattle.hagerzhang_steps.specs.declared.moves.Probed.{Probed}
-use Rattle.hagerzhang_steps.specs.declared.moves.Probed.TheVariants.{Passes, Barred}
 use Rattle.hagerzhang_steps.specs.declared.opening.Opened.{Opened}
 use Rattle.hagerzhang_steps.specs.declared.iteration.Then.{Then}
 use Rattle.hagerzhang_steps.specs.declared.iteration.Then.TheVariants.{Go, Close}
 use Rattle.hagerzhang_steps.specs.declared.state.Narrowing.{Narrowing}
-use Rattle.hagerzhang_steps.specs.declared.state.Kept.{Kept}
-use Rattle.hagerzhang.specs.declared.state.Due.{Due}
 use Rattle.hagerzhang_steps.specs.declared.state.Waiting.{Waiting}
 use Rattle.hagerzhang_steps.specs.declared.state.Opening.{Opening}
 use Rattle.hagerzhang_steps.specs.declared.state.Opening.TheVariants.{Low, High, StartStep, First, Later, Inside}
@@ -43,7 +39,6 @@ use Rattle.hagerzhang_steps.specs.declared.state.Stage.{Stage}
 use Rattle.hagerzhang_steps.specs.declared.state.Stage.TheVariants.{Open, Over}
 use Rattle.hagerzhang_steps.specs.declared.state.Next.{Next}
 use Rattle.hagerzhang.specs.declared.state.Search.{Search}
-use Rattle.hagerzhang.specs.declared.state.Turn.{Turn}
 use Rattle.hagerzhang_steps.specs.Moves.{attempt_of, probe_of, narrow_by, test_of, made_by, made_of}
 use Rattle.hagerzhang_steps.specs.Iteration.{went_of}
 use Rattle.hagerzhang_steps.specs.Opening.{inside_of, arrived_of, stretch_of, grew_by, opens_of}
@@ -78,11 +73,11 @@ awaited s (Open waiting) = refl
 awaited s (Over kept) = refl
 
 -- what `held` and `awaited` promise of their results
-pub held-promised : (s : Search) (r : Kept) → r ≡ held_of s
+pub held-promised : (s : Search) (r : Option Finished) → r ≡ held_of s
     → record { exact : r ≡ held_of s; rules : kept_report r ≡ reported (meant s) }
 held-promised s r e = record { exact = e; rules = ap kept_report e ∙ sym (reports s.setup s.stage) }
 
-pub awaited-promised : (s : Search) (r : Due) → r ≡ awaited_of s
+pub awaited-promised : (s : Search) (r : Option Float) → r ≡ awaited_of s
     → record { exact : r ≡ awaited_of s; rules : due_told r ≡ awaits (meant s) }
 awaited-promised s r e = record { exact = e; rules = ap due_told e ∙ sym (awaited s.setup s.stage) }
 
@@ -90,15 +85,15 @@ awaited-promised s r e = record { exact = e; rules = ap due_told e ∙ sym (awai
 -- what is told is an ask exactly while the search is not over
 pub data Said : Stage → Outcome → Type 0 where
   goes_on : {waiting : Waiting} {x : Float} → Said (Open waiting) (Ask x)
-  ended : {kept : Kept} {o : Outcome} {e : Ending ℕ} → told o ≡ ends e → OfTheStep (refusal_in (ends e))
+  ended : {kept : Option Finished} {o : Outcome} {e : Ending ℕ} → told o ≡ ends e → OfTheStep (refusal_in (ends e))
       → Said (Over kept) o
 
 abbrev Says : Next → Type 0
 Says n = Said n.stage n.outcome
 
 -- U3's next step passes, or its refusal is one of the step
-probe-said : (Q : Probed → Type 0) → ((e : Narrowing) → Q (Passes e))
-    → ((r : Refusal) → OfTheStep (some (number_of r)) → Q (Barred r))
+probe-said : (Q : Rust.Result Narrowing Refusal → Type 0) → ((e : Narrowing) → Q (Ok e))
+    → ((r : Refusal) → OfTheStep (Some (number_of r)) → Q (Err r))
     → (theta : Float) (h : Point) (k : Float) (left : ℕ) → Q (probe_of theta h k left)
 unfolding probe_of
 probe-said Q passes refuses theta h k left =
@@ -141,10 +136,10 @@ module _ (s : Setup) where
   stretch-said c t left false true e f = rw (e, f) goes_on
   stretch-said c t left false false e f = rw (e, f) (ended refl five)
 
-  grew-said : (c t : Point) (left : ℕ) (grown : Grown) → Starts-said (grew_by s c t left grown)
+  grew-said : (c t : Point) (left : ℕ) (grown : Option Came) → Starts-said (grew_by s c t left grown)
   unfolding grew_by
-  grew-said c t left (Enough came) = arrived-said c s.options.budget came
-  grew-said c t left TooShort = stretch-said c t left _ _ refl refl
+  grew-said c t left (Some came) = arrived-said c s.options.budget came
+  grew-said c t left None = stretch-said c t left _ _ refl refl
 
   opens-said : (w : Opening) (f g : Float) → Starts-said (opens_of s w f g)
   unfolding opens_of starts_of

@@ -32,12 +32,9 @@ use Rattle.hagerzhang_rules.specs.declared.Options.{Options}
 use Rattle.hagerzhang_rules.specs.declared.Setup.{Setup}
 use Rattle.hagerzhang_rules.specs.declared.Came.{Came}
 use Rattle.hagerzhang_rules.specs.declared.Came.TheVariants.{To, On}
-use Rattle.hagerzhang_rules.specs.declared.Grown.{Grown}
-use Rattle.hagerzhang_rules.specs.declared.Grown.TheVariants.{Enough, TooShort}
-use Rattle.hagerzhang_rules.specs.declared.Further.{Further}
-use Rattle.hagerzhang_rules.specs.declared.Further.TheVariants.{Nothing, At}
-use Rattle.hagerzhang_rules.specs.declared.Judged.{Judged}
-use Rattle.hagerzhang_rules.specs.declared.Judged.TheVariants.{Holds, Fails}
+use Rattle.std.specs.Prelude.{Option, Some, None, Ok, Err}
+use Rattle.std.specs.Prelude as Rust
+use Rattle.hagerzhang.specs.Machine.{Turn, Started}
 use Rattle.hagerzhang_steps.specs.declared.state.Finished.{Finished}
 use Rattle.hagerzhang_steps.specs.declared.state.Rule.{Rule}
 use Rattle.hagerzhang_steps.specs.declared.state.Rule.TheVariants.{S1 as ByS1, S4 as ByS4, L2 as ByL2}
@@ -50,16 +47,11 @@ use Rattle.hagerzhang_steps.specs.declared.state.Stage.{Stage}
 use Rattle.hagerzhang_steps.specs.declared.state.Stage.TheVariants.{Open, Over}
 use Rattle.hagerzhang_steps.specs.declared.moves.Move.{Move}
 use Rattle.hagerzhang_steps.specs.declared.moves.Move.TheVariants.{ByLimit}
-use Rattle.hagerzhang_steps.specs.declared.moves.Probed.{Probed}
-use Rattle.hagerzhang_steps.specs.declared.moves.Probed.TheVariants.{Passes, Barred}
 use Rattle.hagerzhang_steps.specs.declared.moves.Tested.{Tested}
 use Rattle.hagerzhang_steps.specs.declared.iteration.Then.{Then}
 use Rattle.hagerzhang_steps.specs.declared.iteration.Then.TheVariants.{Close}
 use Rattle.hagerzhang_steps.specs.declared.state.Next.{Next}
 use Rattle.hagerzhang.specs.declared.state.Search.{Search}
-use Rattle.hagerzhang.specs.declared.state.Turn.{Turn}
-use Rattle.hagerzhang.specs.declared.state.Started.{Started}
-use Rattle.hagerzhang.specs.declared.state.Started.TheVariants.{Began, NoSearch}
 use Rattle.hagerzhang_rules.specs.Parameters.{setup_of, start_rows}
 use Rattle.hagerzhang_rules.specs.Rules.{point, answer_finite, middle_of, narrowed_of, longer_of, secant_of, S4, L2}
 use Rattle.hagerzhang_rules.specs.Rules.{best_of}
@@ -81,6 +73,8 @@ use Rattle.hagerzhang.specs.Machine.{fresh_of, start_of, StartSaid, AnswerSaid}
 use Rattle.hagerzhang_steps.specs.Reports.{last_of, kept_report}
 use Rattle.hagerzhang.specs.Meaning.{closed, after_trial, on_asked, begins as begins-with, on_opening, on_answer}
 use Rattle.hagerzhang.specs.Meaning.{meaning, meant, begun, Starts, Follows}
+use Rattle.runs.specs.declared.Verdict.{Verdict}
+use Rattle.hagerzhang_steps.specs.declared.state.Narrowing.{Narrowing}
 
 denote : Setup → Next → Seen Report
 denote s n = (meaning s n.stage, told n.outcome)
@@ -90,11 +84,11 @@ denote_step t = (meant t.search, told t.outcome)
 
 -- ---- U3's next step, in an iteration and in the start, while n answers may come: 6, 5, 7. Whatever is `built` of the
 -- test's result, it is the rules' U3, where each refusal is the rules' and a step that passes is asked
-module _ (s : Setup) (k : Report) (built : Probed → Next) (h : Point) (k' : Float) (then : Bracket → Rest Report)
+module _ (s : Setup) (k : Report) (built : Rust.Result Narrowing Refusal → Next) (h : Point) (k' : Float) (then : Bracket → Rest Report)
     (refuses : (r : Refusal) (why : Why) → number_of r ≡ number_for why
-    → denote s (built (Barred r)) ≡ seen (end_with k (refusal why)))
+    → denote s (built (Err r)) ≡ seen (end_with k (refusal why)))
     (passes : (d : Float) (n : ℕ)
-    → denote s (built (Passes (narrowing h k' d n)))
+    → denote s (built (Ok (narrowing h k' d n)))
     ≡ seen (asking s (keeping k) k d (λ p. U3 s (keeping k) k n (narrowed_of s.level h k' p) then))) where
   probes : (n : ℕ)
       → denote s (built (probe_of s.options.params.theta h k' n)) ≡ seen (U3 s (keeping k) k n (On h k') then)
@@ -102,7 +96,7 @@ module _ (s : Setup) (k : Report) (built : Probed → Next) (h : Point) (k' : Fl
   probes zero = refuses BudgetSpent (budget_spent h.x k') refl
   probes (suc n) =
       let x = middle_of s.options.params.theta h k' in
-      let Means : Probed → Rest Report → Type 0 = λ p r. denote s (built p) ≡ seen r in
+      let Means : Rust.Result Narrowing Refusal → Rest Report → Type 0 = λ p r. denote s (built p) ≡ seen r in
       let e : suc n - 1 ≡ n = omega arith in
       let z : eqb (suc n) 0 ≡ false = ne_eqb (suc n) 0 (λ (p : suc n ≡ 0). suc-ne-zero n p) in
       rw (e, z)
@@ -161,7 +155,7 @@ module _ (s : Setup) (h : s.options.limit < 4294967296) (w : Bracket) (c : Point
   unfolding onwards iteration_by after_trial trial
   begins n p e = rw (e, ← p) (tries s done ByS1 w (secant_of w.a w.b))
 
-  unjudged : moved s done (outlook_by s done Fails) ≡ seen (onwards (N - i))
+  unjudged : moved s done (outlook_by s done None) ≡ seen (onwards (N - i))
   unfolding outlook_by
   unjudged =
       by_cases (λ m. moved s done m ≡ seen (onwards (N - i))) (leb N i)
@@ -171,11 +165,11 @@ module _ (s : Setup) (h : s.options.limit < 4294967296) (w : Bracket) (c : Point
       let p : one_more i ≡ i + 1 = counts-on i N h l in
       begins (N - i) p (rw p (omega arith)))
 
-  judges : (go : Rest Report) → moved s done (outlook_by s done Fails) ≡ seen go → (j : Judged)
+  judges : (go : Rest Report) → moved s done (outlook_by s done None) ≡ seen go → (j : Option Verdict)
       → moved s done (outlook_by s done j) ≡ seen (decided (report_of s w c i) done.best.x go j)
   unfolding outlook_by decided test_of made_by denote seen once_told shown kept_report meaning
-  judges go e (Holds v) = refl
-  judges go e Fails = e
+  judges go e (Some v) = refl
+  judges go e None = e
 
   settles : denote s (settled_of s w c (iterations i)) ≡ seen (rounds s (N - i) w c i)
   unfolding verdict
@@ -191,13 +185,13 @@ module _ (s : Setup) (h : s.options.limit < 4294967296) (fin : Finished) where
   closes v = settles s h v fin.c (one_more fin.iterations.0)
 
   -- a further trial, or otherwise what follows
-  tried : (u : Bracket) (rule : Rule) (otherwise : Then) (then : Bracket → Rest Report) (f : Further)
+  tried : (u : Bracket) (rule : Rule) (otherwise : Then) (then : Bracket → Rest Report) (f : Option Float)
       → went s fin otherwise ≡ seen (then u)
       → ((x : Float) → then ≡ after_trial s fin rule x)
       → went s fin (tried_by u rule otherwise f) ≡ seen (further s (keeping (last_of fin)) (last_of fin) f u then)
   unfolding tried_by further went_of
-  tried u rule otherwise then (At x) e same = rw (same x) (tries s fin rule u x)
-  tried u rule otherwise then Nothing e same = e
+  tried u rule otherwise then (Some x) e same = rw (same x) (tries s fin rule u x)
+  tried u rule otherwise then None e same = e
 
   after-S4 : (v : Bracket)
       → went s fin (after_s4_of gamma fin.bracket v)
@@ -261,15 +255,15 @@ module _ (s : Setup) (h : s.options.limit < 4294967296) (real : is_nan s.level �
       probes s nothing_yet (λ p. starts_of s (inside_of c p)) h k (begins-with s c) (λ r why e. rw e) (λ d m. refl) n
 
   -- after a trial t, while the step may grow n times more (11, then 5)
-  grows : (c t : Point) (n : ℕ) (grown : Grown)
+  grows : (c t : Point) (n : ℕ) (grown : Option Came)
       → denote s (starts_of s (grew_by s c t n grown))
       ≡ seen (growth s (keeping nothing_yet) nothing_yet n t grown (begins-with s c))
   unfolding grew_by stretch_of starts_of growth enough trial meaning on_answer on_opening keeps_of step_due opening_step
       kept_report denote seen once_told shown
-  grows c t zero (Enough came) = arrives c s.options.budget came
-  grows c t (suc n) (Enough came) = arrives c s.options.budget came
-  grows c t zero TooShort = refl
-  grows c t (suc n) TooShort =
+  grows c t zero (Some came) = arrives c s.options.budget came
+  grows c t (suc n) (Some came) = arrives c s.options.budget came
+  grows c t zero None = refl
+  grows c t (suc n) None =
       let e : suc n - 1 ≡ n = omega arith in
       let z : eqb (suc n) 0 ≡ false = ne_eqb (suc n) 0 (λ (p : suc n ≡ 0). suc-ne-zero n p) in
       rw (e, z) (by-cases₂ (λ o r. denote s (starts_of s o) ≡ seen r) (finite (longer_of t)) (λ e. refl) (λ e. refl))
@@ -369,8 +363,8 @@ module _ (o : Options) (f0 s0 : Float) where
 
   pub starts : (r : Started) → StartSaid o f0 s0 r → Starts o f0 s0 r
   unfolding starting.stands starting.says
-  starts (Began t) e = record { stands-for = ap stands e ∙ start-stands; tells_first = ap says e ∙ start-says }
-  starts (NoSearch k) e = record { stands-for = ap stands e ∙ start-stands; tells_first = ap says e ∙ start-says }
+  starts (Ok t) e = record { stands-for = ap stands e ∙ start-stands; tells_first = ap says e ∙ start-says }
+  starts (Err k) e = record { stands-for = ap stands e ∙ start-stands; tells_first = ap says e ∙ start-says }
 
   -- what `start` promises of its result
   pub start-promised : (r : Started) → StartSaid o f0 s0 r

@@ -7,19 +7,18 @@ use Rattle.floats.proofs.Determined.{determined}
 use Rattle.refusals.proofs.Determined.{with_number, number-back}
 use Rattle.hagerzhang_rules.specs.declared.Options.{Options}
 use Rattle.hagerzhang.specs.declared.state.Search.{Search}
-use Rattle.hagerzhang.specs.declared.state.Turn.{Turn}
-use Rattle.hagerzhang.specs.declared.state.Started.{Started}
-use Rattle.hagerzhang.specs.declared.state.Started.TheVariants.{Began, NoSearch}
+use Rattle.std.specs.Prelude.{Ok, Err}
+use Rattle.hagerzhang.specs.Machine.{Turn, Started}
 use Rattle.hagerzhang.specs.Machine.{started_told, StartSaid, AnswerSaid}
 
 read : Result Turn → Started
-read (value t) = Began t
-read (refused n) = NoSearch (with_number n)
+read (value t) = Ok t
+read (refused n) = Err (with_number n)
 
 back : (r : Started) → read (started_told r) ≡ r
 unfolding read
-back (Began t) = refl
-back (NoSearch k) = ap NoSearch (number-back k)
+back (Ok t) = refl
+back (Err k) = ap Err (number-back k)
 
 pub start-determined : (o : Options) (f0 s0 : Float) (r q : Started) → StartSaid o f0 s0 r → StartSaid o f0 s0 q → r ≡ q
 start-determined o f0 s0 r q e e' = determined started_told read back r q (e ∙ sym e')

@@ -2,7 +2,7 @@
 -- `answer_of`, `held_of`, `awaited_of`), and nobody needs to read how. specs/Meaning.antt says what a state stands for
 -- in 01's rules, proofs/Bridge.antt that every step is the rules' step, and demands/proofs/Along.antt the same for any
 -- list of answers.
-use Rattle.std.specs.Prelude.{◌≡◌, cond, Float}
+use Rattle.std.specs.Prelude.{◌≡◌, cond, Float, Option, None, Some, Ok, Err}
 use Rattle.refusals.specs.Results.{Result, value, refused, refuse◌else◌}
 use Rattle.refusals.specs.Refusals.{number_of}
 use Rattle.runs.specs.declared.Evaluations.{Evaluations}
@@ -11,13 +11,10 @@ use Rattle.refusals.specs.declared.Refusal.TheVariants.{SuppliedNotFinite, Alrea
 use Rattle.runs.specs.Counters.{one_more, evaluations}
 use Rattle.hagerzhang_rules.specs.declared.Options.{Options}
 use Rattle.hagerzhang_rules.specs.declared.Setup.{Setup}
-use Rattle.hagerzhang_steps.specs.declared.state.Kept.{Kept}
-use Rattle.hagerzhang_steps.specs.declared.state.Kept.TheVariants.{NoneYet, Last}
+use Rattle.hagerzhang.specs.Machine.{Turn, Started}
 use Rattle.hagerzhang_steps.specs.declared.state.Trial.{Trial}
 use Rattle.hagerzhang_steps.specs.declared.state.Asked.{Asked}
 use Rattle.hagerzhang_steps.specs.declared.state.Asked.TheVariants.{Update, Between}
-use Rattle.hagerzhang.specs.declared.state.Due.{Due}
-use Rattle.hagerzhang.specs.declared.state.Due.TheVariants.{Awaited, NothingDue}
 use Rattle.hagerzhang_steps.specs.declared.state.Waiting.{Waiting}
 use Rattle.hagerzhang_steps.specs.declared.state.Opening.{Opening}
 use Rattle.hagerzhang_steps.specs.declared.state.Opening.TheVariants.{Low, High, StartStep, First, Later, Inside}
@@ -26,14 +23,12 @@ use Rattle.hagerzhang_steps.specs.declared.state.Stage.{Stage}
 use Rattle.hagerzhang_steps.specs.declared.state.Stage.TheVariants.{Open, Over}
 use Rattle.hagerzhang_steps.specs.declared.state.Next.{Next}
 use Rattle.hagerzhang.specs.declared.state.Search.{Search}
-use Rattle.hagerzhang.specs.declared.state.Turn.{Turn}
-use Rattle.hagerzhang.specs.declared.state.Started.{Started}
-use Rattle.hagerzhang.specs.declared.state.Started.TheVariants.{Began, NoSearch}
 use Rattle.hagerzhang_rules.specs.Parameters.{setup_of, start_rows}
 use Rattle.hagerzhang_rules.specs.Rules.{answer_finite}
 use Rattle.hagerzhang_steps.specs.State.{asks_of, ended_of}
 use Rattle.hagerzhang_steps.specs.Opening.{first_of}
 use Rattle.hagerzhang_steps.specs.Steps.{react_of}
+use Rattle.hagerzhang_steps.specs.declared.state.Finished.{Finished}
 
 -- the search with what an answer leads to
 abbrev pub turned_of : Setup → Evaluations → Next → Turn
@@ -41,15 +36,15 @@ turned_of s n to = record { search = record { setup = s; evaluations = n; stage 
 
 -- ---- what a state holds: bracket, best and iterations, or none yet; and the step at which an answer is awaited
 
-unfoldable pub keeps_of : Waiting → Kept
-keeps_of (Starting w) = NoneYet
-keeps_of (Running t last asked) = Last last
+unfoldable pub keeps_of : Waiting → Option Finished
+keeps_of (Starting w) = None
+keeps_of (Running t last asked) = Some last
 
-unfoldable pub held_at : Stage → Kept
+unfoldable pub held_at : Stage → Option Finished
 held_at (Open waiting) = keeps_of waiting
 held_at (Over kept) = kept
 
-abbrev pub held_of : Search → Kept
+abbrev pub held_of : Search → Option Finished
 held_of s = held_at s.stage
 
 unfoldable pub step_asked : Trial → Asked → Float
@@ -68,11 +63,11 @@ unfoldable pub step_due : Setup → Waiting → Float
 step_due s (Starting w) = opening_step s.options.params.start w
 step_due s (Running t last asked) = step_asked t asked
 
-unfoldable pub awaited_at : Setup → Stage → Due
-awaited_at s (Open waiting) = Awaited (step_due s waiting)
-awaited_at s (Over kept) = NothingDue
+unfoldable pub awaited_at : Setup → Stage → Option Float
+awaited_at s (Open waiting) = Some (step_due s waiting)
+awaited_at s (Over kept) = None
 
-abbrev pub awaited_of : Search → Due
+abbrev pub awaited_of : Search → Option Float
 awaited_of s = awaited_at s.setup s.stage
 
 -- ---- an answer, taken
@@ -100,8 +95,8 @@ abbrev pub start_of : Options → Float → Float → Result Turn
 start_of o f0 s0 = refuse (start_rows o f0 s0) else fresh_of (setup_of o f0 s0)
 
 abbrev pub started_told : Started → Result Turn
-started_told (Began r) = value r
-started_told (NoSearch k) = refused (number_of k)
+started_told (Ok r) = value r
+started_told (Err k) = refused (number_of k)
 
 -- ---- what the contracts say of a result
 

@@ -1,7 +1,6 @@
 -- What a state stands for in 01's rules: the search that is left. And what `start` and `answer` promise in
 -- the rules' terms.
-use Rattle.std.specs.Prelude.{ℕ, ◌-◌, ◌≡◌, Bool, true, false, Float}
-use Rattle.std.proofs.Math.Option.{Option, some, none}
+use Rattle.std.specs.Prelude.{ℕ, ◌-◌, ◌≡◌, Bool, true, false, Float, Option, Some, None, Ok, Err}
 use Rattle.refusals.specs.Results.{Result, value, refused, refuse◌else◌}
 use Rattle.runs.specs.Outcomes.{refusal, Told, ends, already_over, told}
 use Rattle.refusals.specs.Refusals.{number_of}
@@ -18,8 +17,7 @@ use Rattle.hagerzhang_steps.specs.declared.state.Rule.TheVariants.{S1 as ByS1, S
 use Rattle.hagerzhang_steps.specs.declared.state.Trial.{Trial}
 use Rattle.hagerzhang_steps.specs.declared.state.Asked.{Asked}
 use Rattle.hagerzhang_steps.specs.declared.state.Asked.TheVariants.{Update, Between}
-use Rattle.hagerzhang.specs.declared.state.Due.{Due}
-use Rattle.hagerzhang.specs.declared.state.Due.TheVariants.{Awaited, NothingDue}
+use Rattle.hagerzhang.specs.Machine.{Turn, Started}
 use Rattle.hagerzhang_steps.specs.declared.state.Waiting.{Waiting}
 use Rattle.hagerzhang_steps.specs.declared.state.Opening.{Opening}
 use Rattle.hagerzhang_steps.specs.declared.state.Opening.TheVariants.{Low, High, StartStep, First, Later, Inside}
@@ -27,9 +25,6 @@ use Rattle.hagerzhang_steps.specs.declared.state.Waiting.TheVariants.{Starting, 
 use Rattle.hagerzhang_steps.specs.declared.state.Stage.{Stage}
 use Rattle.hagerzhang_steps.specs.declared.state.Stage.TheVariants.{Open, Over}
 use Rattle.hagerzhang.specs.declared.state.Search.{Search}
-use Rattle.hagerzhang.specs.declared.state.Turn.{Turn}
-use Rattle.hagerzhang.specs.declared.state.Started.{Started}
-use Rattle.hagerzhang.specs.declared.state.Started.TheVariants.{Began, NoSearch}
 use Rattle.hagerzhang_rules.specs.Parameters.{setup_of, start_rows}
 use Rattle.hagerzhang_rules.specs.Rules.{
   point,
@@ -65,17 +60,17 @@ is_over (Open waiting) = false
 is_over (Over kept) = true
 
 -- the step at which an answer is awaited
-abbrev pub due_told : Due → Option Float
-due_told (Awaited x) = some x
-due_told NothingDue = none
+abbrev pub due_told : Option Float → Option Float
+due_told (Some x) = Some x
+due_told None = None
 
 -- no refusal, or one of the step that would be next
 pub data OfTheStep : Option ℕ → Type 0 where
-  not-refused : OfTheStep none
-  six : OfTheStep (some 6)
-  eleven : OfTheStep (some 11)
-  five : OfTheStep (some 5)
-  seven : OfTheStep (some 7)
+  not-refused : OfTheStep None
+  six : OfTheStep (Some 6)
+  eleven : OfTheStep (Some 11)
+  five : OfTheStep (Some 5)
+  seven : OfTheStep (Some 7)
 
 -- ---- the search that is left
 
@@ -136,16 +131,16 @@ meant s = meaning s.setup s.stage
 -- ---- `start`: the refusal's number, or the search that 01's rules are for the accepted setup
 
 abbrev pub start_told : Started → Result (Rest Report)
-start_told (Began r) = value (meant r.search)
-start_told (NoSearch k) = refused (number_of k)
+start_told (Ok r) = value (meant r.search)
+start_told (Err k) = refused (number_of k)
 
 abbrev pub begun : Options → Float → Float → Result (Rest Report)
 begun o f0 s0 = refuse (start_rows o f0 s0) else hager_zhang (setup_of o f0 s0)
 
 -- what a start says: the first step, or the refusal
 abbrev pub start_says : Started → Told
-start_says (Began r) = told r.outcome
-start_says (NoSearch k) = ends (refusal (number_of k))
+start_says (Ok r) = told r.outcome
+start_says (Err k) = ends (refusal (number_of k))
 
 pub record Starts (o : Options) (f0 s0 : Float) (r : Started) : Type 0 where
   pub stands-for : start_told r ≡ begun o f0 s0

@@ -2,7 +2,7 @@
 -- NaN and a point with finite cost and slope. From the order of floats. Assumes nothing.
 use mathlib.Core.Path.{◌≡◌, refl}
 use mathlib.Core.Bool.{true, false}
-use mathlib.Core.Option.{Option, some}
+use Rattle.std.specs.Prelude.{Option, Some}
 use lib.Ieee.{Float, is_nan}
 use lib.Ieee.Scale.{finite}
 use Rattle.floats.specs.Arithmetic.{◌≤ᶠ◌, ◌≥ᶠ◌, 0ᶠ}
@@ -15,10 +15,10 @@ use Rattle.hagerzhang_rules.specs.Rules.{outside, update_of}
 use Rattle.hagerzhang_decisions.specs.Decisions.{updated_of}
 
 pub decides : (L : Float) (w : Bracket) (c : Point) → is_nan L ≡ false → finite c.f ≡ true → finite c.g ≡ true
-    → update_of L w c ≡ some (updated_of L w c)
+    → update_of L w c ≡ Some (updated_of L w c)
 unfolding update_of updated_of
 decides L w c real f g =
-    let Same : Option Came → Came → Type 0 = λ o came. o ≡ some came in
+    let Same : Option Came → Came → Type 0 = λ o came. o ≡ Some came in
     by-cases₂ Same (outside w c) (λ e. refl)
     (λ e. by-cases₂ Same (c.g ≥ᶠ 0ᶠ) (λ e. refl)
     (λ no.

@@ -2,7 +2,7 @@
 -- Assumes nothing.
 use mathlib.Core.Path.{◌≡◌}
 use mathlib.Core.List.{List, [], ◌∷◌}
-use mathlib.Core.Option.{some, none}
+use Rattle.std.specs.Prelude.{Some, None}
 use Prim.Native.Nat.{ℕ}
 use native.Mathlib.Omega.{arith}
 use lib.Ieee.{Float}
@@ -16,7 +16,7 @@ use Rattle.hagerzhang_rules.specs.Rules.{Summary, nothing_yet, last}
 pub none-not-last : (p : Summary) → nothing_yet ≡ last p → ⊥
 none-not-last p e = let z : ◌≡◌ {A = ℕ} 0 1 = cc in omega arith
 
-pub to-not-on : (u : Bracket) (h : Point) (k : Float) → some (To u) ≡ some (On h k) → ⊥
+pub to-not-on : (u : Bracket) (h : Point) (k : Float) → Some (To u) ≡ Some (On h k) → ⊥
 to-not-on u h k e = let z : ◌≡◌ {A = ℕ} 0 1 = cc in omega arith
 
 pub not-both : (e : Bounds) (K : ℕ) → Bounded e ≡ Growing K → ⊥
@@ -25,5 +25,5 @@ not-both e K same = let z : ◌≡◌ {A = ℕ} 0 1 = cc in omega arith
 pub cons-not-nil : {A : Type 0} {x : A} {xs : List A} → x ∷ xs ≡ [] → ⊥
 cons-not-nil e = let z : ◌≡◌ {A = ℕ} 0 1 = cc in omega arith
 
-pub none-not-some : {A : Type 0} {x : A} → none ≡ some x → ⊥
+pub none-not-some : {A : Type 0} {x : A} → None ≡ Some x → ⊥
 none-not-some e = let z : ◌≡◌ {A = ℕ} 0 1 = cc in omega arith

@@ -4,7 +4,7 @@ use mathlib.Core.Path.{◌≡◌, refl}
 use mathlib.Core.Bool.{true, ◌&&◌}
 use mathlib.Core.List.{List, [], ◌∷◌}
 use mathlib.Core.Logic.{inl}
-use mathlib.Core.Option.{Option, some, none}
+use Rattle.std.specs.Prelude.{Option, None, Some}
 use Prim.Native.Nat.{ℕ, zero, suc, ◌+◌, ◌*◌, ◌≤◌, ◌<◌}
 use native.Mathlib.Omega.{arith}
 use lib.ListN.{length}
@@ -14,15 +14,12 @@ use Rattle.floats.specs.Arithmetic.{◌≤ᶠ◌, 0ᶠ}
 use Rattle.floats.proofs.Order.{le_trans}
 use Rattle.floats.proofs.Branches.{by_cases, both, and_first, and_second}
 use Rattle.runs.specs.Asking.{Rest, keeping, reported}
+use Rattle.runs.specs.declared.Verdict.{Verdict}
 use Rattle.hagerzhang_rules.specs.declared.Point.{Point}
 use Rattle.hagerzhang_rules.specs.declared.Bracket.{Bracket}
 use Rattle.hagerzhang_rules.specs.declared.Setup.{Setup}
 use Rattle.hagerzhang_rules.specs.declared.Came.{Came}
 use Rattle.hagerzhang_rules.specs.declared.Came.TheVariants.{To}
-use Rattle.hagerzhang_rules.specs.declared.Further.{Further}
-use Rattle.hagerzhang_rules.specs.declared.Further.TheVariants.{Nothing, At}
-use Rattle.hagerzhang_rules.specs.declared.Judged.{Judged}
-use Rattle.hagerzhang_rules.specs.declared.Judged.TheVariants.{Holds, Fails}
 use Rattle.hagerzhang_rules.specs.Rules.{point, bracket, update_of, secant_of, S4, L2, lowest, best_over, best_of}
 use Rattle.hagerzhang_rules.specs.Rules.{judge_of, trial, updating, update, further, after_s4, iteration}
 use Rattle.hagerzhang_rules.specs.Rules.{iteration_by, Summary, Report, last, report_of, decided, verdict, rounds}
@@ -89,13 +86,13 @@ module _ (s : Setup) (f_l : finite s.level ≡ true) (p : Summary) (fine : Fine 
       → Alone-on asked (updating s inl k o then') → SoundUpdate L F asked o → Continues (length asked + B) then then'
       → On-p asked (updating s (keeping k) k o then)
   unfolding updating
-  updates-by asked (some came) then then' room stands none-had at (reaches i) go =
+  updates-by asked (Some came) then then' room stands none-had at (reaches i) go =
       narrows s k fine below (alone s k w) F B asked came then then' room stands (omega arith) at i go
-  updates-by asked none then then' room stands none-had at sound go = elim sound [ ]
+  updates-by asked None then then' room stands none-had at sound go = elim sound [ ]
 
   updates : (asked : List Point) (u : Bracket) (c : Point) (then : Bracket → Rest Report)
       (then' : Bracket → Alone Iterated)
-      → length asked + suc B ≤ 3 + 3 * B → standing s k asked ≡ some (To u) → Sound L F asked u → point_finite c ≡ true
+      → length asked + suc B ≤ 3 + 3 * B → standing s k asked ≡ Some (To u) → Sound L F asked u → point_finite c ≡ true
       → Alone-on (c ∷ asked) (update s inl k u c then') → Continues (length asked + suc B) then then'
       → On-p (c ∷ asked) (update s (keeping k) k u c then)
   updates asked u c then then' room stands i fc at go =
@@ -104,13 +101,13 @@ module _ (s : Setup) (f_l : finite s.level ≡ true) (p : Summary) (fine : Fine 
       (λ more v few. go more v (omega arith))
 
   -- a further trial, if there is one, and its update of u
-  goes_further : (asked : List Point) (e : Further) (u : Bracket) (then : Bracket → Rest Report)
+  goes_further : (asked : List Point) (e : Option Float) (u : Bracket) (then : Bracket → Rest Report)
       (then' : Bracket → Alone Iterated)
       → length asked + suc B ≤ 3 + 3 * B → Reaches asked u (further s inl k e u then')
       → Continues (length asked + suc B) then then' → On-p asked (further s (keeping k) k e u then)
   unfolding further
-  goes_further asked Nothing u then then' room at go = go asked u (omega arith) at
-  goes_further asked (At x) u then then' room at go =
+  goes_further asked None u then then' room at go = go asked u (omega arith) at
+  goes_further asked (Some x) u then then' room at go =
       tries asked u x (λ c. update s (keeping k) k u c then) (λ c. update s inl k u c then') (omega arith) at
       (λ f g fc at'. updates asked u (point x f g) then then' room at.stands at.sound fc at' go)
 
@@ -163,11 +160,11 @@ sound-placed {L} {w} {asked} {u} at m = record {
 
 -- ---- the iterations: what each one that is finished leaves
 module _ (s : Setup) where
-  decided-reports : (k : Report) (x : Float) (go : Rest Report) (j : Judged) → reported go ≡ k
+  decided-reports : (k : Report) (x : Float) (go : Rest Report) (j : Option Verdict) → reported go ≡ k
       → reported (decided k x go j) ≡ k
   unfolding decided reported
-  decided-reports k x go (Holds v) e = refl
-  decided-reports k x go Fails e = e
+  decided-reports k x go (Some v) e = refl
+  decided-reports k x go None e = e
 
   pub rounds-report : (n : ℕ) (w : Bracket) (c : Point) (i : ℕ) → reported (rounds s n w c i) ≡ report_of s w c i
   unfolding rounds_by verdict iteration_by trial reported
@@ -176,11 +173,11 @@ module _ (s : Setup) where
       decided-reports (report_of s w c i) _ _ (judge_of s (best_of w.a w.b c))
       (by_cases (λ r. reported r ≡ report_of s w c i) (finite (secant_of w.a w.b)) (λ e. refl) (λ e. refl))
 
-  decided-stands : (p : Summary) (go : Rest Report) (j : Judged) → Fine s (last p) → judge_of s p.best ≡ j
-      → (j ≡ Fails → Stands s [] go) → Stands s [] (decided (last p) p.best.x go j)
+  decided-stands : (p : Summary) (go : Rest Report) (j : Option Verdict) → Fine s (last p) → judge_of s p.best ≡ j
+      → (j ≡ None → Stands s [] go) → Stands s [] (decided (last p) p.best.x go j)
   unfolding decided
-  decided-stands p go (Holds v) fine e next = ended {asked = []} fine (omega arith) (words.by-verdict e)
-  decided-stands p go Fails fine e next = next refl
+  decided-stands p go (Some v) fine e next = ended {asked = []} fine (omega arith) (words.by-verdict e)
+  decided-stands p go None fine e next = next refl
 
   best-finite : (a b c : Point) → point_finite a ≡ true → point_finite b ≡ true → point_finite c ≡ true
       → point_finite (best_of a b c) ≡ true

@@ -5,7 +5,6 @@ use mathlib.Core.Path.{◌≡◌, refl, sym, ap, ◌∙◌, subst}
 use mathlib.Core.Bool.{true, ◌&&◌}
 use mathlib.Core.List.{List, [], ◌∷◌}
 use mathlib.Core.Logic.{inl, inr}
-use mathlib.Core.Option.{none}
 use Prim.Native.Nat.{ℕ, zero, suc, ◌+◌, ◌<◌}
 use native.Mathlib.Omega.{arith}
 use lib.ListN.{length}
@@ -29,8 +28,7 @@ use Rattle.hagerzhang_rules.specs.declared.Options.{Options}
 use Rattle.hagerzhang_rules.specs.declared.Setup.{Setup}
 use Rattle.hagerzhang_rules.specs.declared.Came.{Came}
 use Rattle.hagerzhang_rules.specs.declared.Came.TheVariants.{To, On}
-use Rattle.hagerzhang_rules.specs.declared.Grown.{Grown}
-use Rattle.hagerzhang_rules.specs.declared.Grown.TheVariants.{Enough, TooShort}
+use Rattle.std.specs.Prelude.{Option, Some, None}
 use Rattle.hagerzhang_rules.specs.Parameters.{setup_of}
 use Rattle.hagerzhang_rules.specs.Rules.{answer_finite, point, bracket, zero_of, grown_of, longer_of, best_of, asking}
 use Rattle.hagerzhang_rules.specs.Rules.{trial, U3, ask_start, ask_high, enough, growth, starting, Report, nothing_yet}
@@ -38,7 +36,7 @@ use Rattle.hagerzhang_rules.specs.Rules.{rounds, hager_zhang, hager_zhang_by}
 use Rattle.hagerzhang_rules.specs.Iterations as words
 use Rattle.hagerzhang_rules.specs.Iterations.{Alone, start_alone, Plays, not_yet, OneOf, here, there, most_by}
 use Rattle.hagerzhang_rules.specs.Iterations.{most_in_start, Started-from, at_zero, asked-then, Opens, earlier_of}
-use Rattle.hagerzhang_rules.specs.Iterations.{came_by, tried, standing, inside, point_finite}
+use Rattle.hagerzhang_rules.specs.Iterations.{tried, standing, inside, point_finite}
 use Rattle.hagerzhang_rules.proofs.Apart.{not-both}
 use Rattle.hagerzhang_rules.proofs.Ranges.{Accepted, level-finite, f0-finite, s0-finite, gamma-finite}
 use Rattle.hagerzhang_rules.proofs.Ranges.{gamma-above, start-finite, min-finite, max-finite, min-from-zero}
@@ -75,10 +73,10 @@ start-frame s = record {
 }
 
 -- what a trial d tells, of finite numbers
-data Tells (L : Float) (low earlier d : Point) : Grown → Type 0 where
-  brackets : high_meets d ≡ true → Tells L low earlier d (Enough (To (bracket earlier d)))
-  steepens : Tells L low earlier d (Enough (On low d.x))
-  too_short : low_meets L d ≡ true → Tells L low earlier d TooShort
+data Tells (L : Float) (low earlier d : Point) : Option Came → Type 0 where
+  brackets : high_meets d ≡ true → Tells L low earlier d (Some (To (bracket earlier d)))
+  steepens : Tells L low earlier d (Some (On low d.x))
+  too_short : low_meets L d ≡ true → Tells L low earlier d None
 
 tells : (L : Float) (low earlier d : Point) → finite L ≡ true → point_finite d ≡ true
     → Tells L low earlier d (grown_of L low earlier d)
@@ -100,7 +98,7 @@ answer-fine d fd =
 
 growth-enough : {K R : Type 0} (s : Setup) (refuse : Why → R) (kept : K) (n : ℕ) (t : Point) (came : Came)
     (then : Bracket → Run K R)
-    → growth s refuse kept n t (Enough came) then ≡ U3 s refuse kept s.options.budget came then
+    → growth s refuse kept n t (Some came) then ≡ U3 s refuse kept s.options.budget came then
 unfolding growth enough
 growth-enough s refuse kept zero t came then = refl
 growth-enough s refuse kept (suc n) t came then = refl
@@ -194,8 +192,8 @@ module _ (o : Options) (f0 s0 : Float) (ok : Accepted o f0 s0) where
     abbrev Then : (Bracket → Rest Report) → (Bracket → Alone Bracket) → Type 0
     Then = Goes s nothing_yet (start_alone s) (start-frame s) (most_in_start o)
 
-    stands-so : (asked : List Point) (d : Point) → standing s nothing_yet asked ≡ none
-        → standing s nothing_yet (d ∷ asked) ≡ came_by (grown_of L low (earlier_of s asked) d)
+    stands-so : (asked : List Point) (d : Point) → standing s nothing_yet asked ≡ None
+        → standing s nothing_yet (d ∷ asked) ≡ grown_of L low (earlier_of s asked) d
     stands-so asked d stands =
         one-more-asked s nothing_yet asked d stands ∙ ap (λ (w : Way). tried s w (earlier_of s asked) d) is
 
@@ -230,34 +228,34 @@ module _ (o : Options) (f0 s0 : Float) (ok : Accepted o f0 s0) where
 
     -- what a trial comes to that was enough
     sound-trial : (asked : List Point) (d : Point) (came : Came) → Early asked d → point_finite d ≡ true
-        → Tells L low (earlier_of s asked) d (Enough came) → SoundCame L (start-frame s) (d ∷ asked) came
+        → Tells L low (earlier_of s asked) d (Some came) → SoundCame L (start-frame s) (d ∷ asked) came
     sound-trial asked d _ early fd (brackets rises) =
         is-to (record { low = more d early.can-be-low; high = now fd refl rises; in_order = early.shorter })
     sound-trial asked d _ early fd steepens = is-on (zero-low (d ∷ asked)) refl
 
     -- d was asked behind these, and the step may grow n times more: it was enough, or what is shown of one too short
-    judged : (n : ℕ) (asked : List Point) (d : Point) (grown : Grown) (then : Bracket → Rest Report)
+    judged : (n : ℕ) (asked : List Point) (d : Point) (grown : Option Came) (then : Bracket → Rest Report)
         (then' : Bracket → Alone Bracket)
-        → length asked + n ≡ K → standing s nothing_yet asked ≡ none
-        → standing s nothing_yet (d ∷ asked) ≡ came_by grown → Early asked d → point_finite d ≡ true
+        → length asked + n ≡ K → standing s nothing_yet asked ≡ None
+        → standing s nothing_yet (d ∷ asked) ≡ grown → Early asked d → point_finite d ≡ true
         → Tells L low (earlier_of s asked) d grown
         → By-itself (d ∷ asked) (growth s inl nothing_yet n d grown then') → Then then then'
-        → (low_meets L d ≡ true → standing s nothing_yet (d ∷ asked) ≡ none
-        → By-itself (d ∷ asked) (growth s inl nothing_yet n d TooShort then')
-        → Start (d ∷ asked) (growth s (keeping nothing_yet) nothing_yet n d TooShort then))
+        → (low_meets L d ≡ true → standing s nothing_yet (d ∷ asked) ≡ None
+        → By-itself (d ∷ asked) (growth s inl nothing_yet n d None then')
+        → Start (d ∷ asked) (growth s (keeping nothing_yet) nothing_yet n d None then))
         → Start (d ∷ asked) (growth s (keeping nothing_yet) nothing_yet n d grown then)
-    judged n asked d (Enough came) then then' count before stands early fd t at go short =
+    judged n asked d (Some came) then then' count before stands early fd t at go short =
         let none-had = one-more-had s nothing_yet asked d before in
         rw (growth-enough s (keeping nothing_yet) nothing_yet n d came then)
         (narrows s nothing_yet none_yet tt (start_alone s) (start-frame s) o.budget (d ∷ asked) came then then'
         (rw most-is (omega arith)) stands (omega arith) (rw (growth-enough s inl nothing_yet n d came then') at at)
         (sound-trial asked d came early fd t)
         (λ more v few. go more v (rw most-is (omega arith))))
-    judged n asked d TooShort then then' count before stands early fd (too_short meets) at go short =
+    judged n asked d None then then' count before stands early fd (too_short meets) at go short =
         short meets stands at
 
     grows : (n : ℕ) (asked : List Point) (d : Point) (then : Bracket → Rest Report) (then' : Bracket → Alone Bracket)
-        → length asked + n ≡ K → standing s nothing_yet asked ≡ none → Early asked d → point_finite d ≡ true
+        → length asked + n ≡ K → standing s nothing_yet asked ≡ None → Early asked d → point_finite d ≡ true
         → By-itself (d ∷ asked) (growth s inl nothing_yet n d (grown_of L low (earlier_of s asked) d) then')
         → Then then then'
         → Start (d ∷ asked)

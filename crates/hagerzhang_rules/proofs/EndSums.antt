@@ -5,18 +5,18 @@ use mathlib.Core.Bool.{false}
 use lib.IntN.{negsuc}
 use lib.Ieee.{fin, add, sub, mul, div, neg, le, lt, eq, of_bits, of_int}
 use Rattle.floats.specs.Numerals.{quarters}
-use Rattle.hagerzhang_rules.specs.declared.Further.TheVariants.{At}
+use Rattle.std.specs.Prelude.{Some}
 use Rattle.hagerzhang_rules.specs.Rules.{update_of, S2, S3, L2, trial, U3, updating, further, iteration_by}
 use Rattle.hagerzhang_rules.specs.MarkedSums.{left}
 use Rattle.hagerzhang_rules.specs.EndSums.{asked-by-L2, low-flat, former-M8, EndSums}
 
 -- 1.5 by way of its own form: the checker takes too long where it compares the two quotients as they are written
-halves : asked-by-L2 low-flat low-flat ≡ At (quarters 6)
+halves : asked-by-L2 low-flat low-flat ≡ Some (quarters 6)
 unfolding L2 add sub mul div lt of_bits of_int
 halves =
-    let as-halves : asked-by-L2 low-flat low-flat ≡ At (fin false 3 (negsuc 0)) = refl in
+    let as-halves : asked-by-L2 low-flat low-flat ≡ Some (fin false 3 (negsuc 0)) = refl in
     let as-quarters : fin false 3 (negsuc 0) ≡ quarters 6 = refl in
-    as-halves ∙ ap At as-quarters
+    as-halves ∙ ap Some as-quarters
 
 pub end-sums : EndSums
 unfolding former-M8 left iteration_by further trial U3 updating update_of S2 S3 L2

@@ -4,7 +4,7 @@
 -- comes to the bracket from 1 to 5, and (5, 3, -1) leads to U3 from 0 to 5 (`in_start`). Assumes nothing.
 use mathlib.Core.Path.{◌≡◌, refl}
 use mathlib.Core.List.{[], ◌∷◌}
-use mathlib.Core.Option.{some, none}
+use Rattle.std.specs.Prelude.{Some, None}
 use lib.Ieee.{add, sub, mul, le, lt, eq, of_bits, of_int, neg, div}
 use Rattle.floats.specs.Numerals.{whole, quarters, minus}
 use Rattle.hagerzhang_rules.specs.declared.Point.{Point}
@@ -29,9 +29,9 @@ on-ab = last (record { bracket = ab; best = a; iterations = 0 })
 
 -- newest first
 pub record InU3 : Type 0 where
-  pub began : standing (setup 2) on-ab (steep ∷ []) ≡ some (On a (whole 2))
-  pub low-moved : standing (setup 2) on-ab (first ∷ steep ∷ []) ≡ some (On first (whole 2))
-  pub high-moved : standing (setup 2) on-ab (second ∷ first ∷ steep ∷ []) ≡ some (On first (quarters 6))
+  pub began : standing (setup 2) on-ab (steep ∷ []) ≡ Some (On a (whole 2))
+  pub low-moved : standing (setup 2) on-ab (first ∷ steep ∷ []) ≡ Some (On first (whole 2))
+  pub high-moved : standing (setup 2) on-ab (second ∷ first ∷ steep ∷ []) ≡ Some (On first (quarters 6))
   pub counted : had (setup 2) on-ab (second ∷ first ∷ steep ∷ []) ≡ 2
 
 pub in-U3 : InU3
@@ -57,9 +57,9 @@ abbrev down : Point
 down = point (whole 5) (whole 3) (minus (whole 1))
 
 pub record InStart : Type 0 where
-  pub too_short : standing growing nothing_yet (short ∷ []) ≡ none
-  pub bracketed : standing growing nothing_yet (up ∷ short ∷ []) ≡ some (To (bracket short up))
-  pub steep-from-zero : standing growing nothing_yet (down ∷ short ∷ []) ≡ some (On (zero_of growing) (whole 5))
+  pub too_short : standing growing nothing_yet (short ∷ []) ≡ None
+  pub bracketed : standing growing nothing_yet (up ∷ short ∷ []) ≡ Some (To (bracket short up))
+  pub steep-from-zero : standing growing nothing_yet (down ∷ short ∷ []) ≡ Some (On (zero_of growing) (whole 5))
   pub counted : had growing nothing_yet (first ∷ down ∷ short ∷ []) ≡ 1
 
 pub in_start : InStart

@@ -12,14 +12,14 @@ use Rattle.hagerzhang_rules.specs.declared.Bracket.{Bracket}
 use Rattle.hagerzhang_rules.specs.declared.Way.{Way}
 use Rattle.hagerzhang_rules.specs.declared.Way.TheVariants.{Growing}
 use Rattle.hagerzhang_rules.specs.declared.Setup.{Setup}
-use Rattle.hagerzhang_rules.specs.declared.Grown.{Grown}
-use Rattle.hagerzhang_rules.specs.declared.Judged.{Judged}
-use Rattle.hagerzhang_rules.specs.declared.Judged.TheVariants.{Holds, Fails}
+use Rattle.std.specs.Prelude.{Option, Some, None}
 use Rattle.hagerzhang_rules.proofs.Passes as passes
 use Rattle.hagerzhang_rules.specs.Rules.{point, answer_finite, zero_of, grown_of, S4, L2, best_of, judge_of, further}
 use Rattle.hagerzhang_rules.specs.Rules.{after_s4, iteration, iteration_by, growth, starting, Summary, Report}
 use Rattle.hagerzhang_rules.specs.Rules.{nothing_yet, last, report_of, decided, verdict, rounds, rounds_by, hager_zhang}
 use Rattle.hagerzhang_rules.specs.Rules.{hager_zhang_by}
+use Rattle.runs.specs.declared.Verdict.{Verdict}
+use Rattle.hagerzhang_rules.specs.declared.Came.{Came}
 
 -- ---- whatever a run reports is P
 data Reports (P : Report → Type 0) : Rest Report → Type 0 where
@@ -49,7 +49,7 @@ module _ (P : Report → Type 0) (s : Setup) (k : Report) (here : P k) where
       passes.goes-on-further s (keeping k) k Q (λ why. over here) (λ x then go. waits here go) (S4 w c.x u) u
       (L2 s.options.params.gamma w) (λ i. then) go)
 
-  grows : (n : ℕ) (t : Point) (grown : Grown) (then : Bracket → Rest Report) → ((u : Bracket) → Reports P (then u))
+  grows : (n : ℕ) (t : Point) (grown : Option Came) (then : Bracket → Rest Report) → ((u : Bracket) → Reports P (then u))
       → Reports P (growth s (keeping k) k n t grown then)
   grows n t grown then go =
       passes.grows s (keeping k) k Q (λ why. over here) (λ x then go. waits here go) n t grown (λ i. then) go
@@ -59,11 +59,11 @@ abbrev OfC : Point → Report → Type 0
 OfC c nothing_yet = Unit {0}
 OfC c (last p) = p.best ≡ best_of p.bracket.a p.bracket.b c
 
-decided-of : {P : Report → Type 0} (k : Report) (x : Float) (go : Rest Report) (j : Judged) → P k → Reports P go
+decided-of : {P : Report → Type 0} (k : Report) (x : Float) (go : Rest Report) (j : Option Verdict) → P k → Reports P go
     → Reports P (decided k x go j)
 unfolding decided
-decided-of k x go (Holds v) here more = over here
-decided-of k x go Fails here more = more
+decided-of k x go (Some v) here more = over here
+decided-of k x go None here more = more
 
 module _ (s : Setup) where
   rounds-of : (n : ℕ) (w : Bracket) (c : Point) (i : ℕ) → Reports (OfC c) (rounds s n w c i)

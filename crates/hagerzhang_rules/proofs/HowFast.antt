@@ -7,7 +7,7 @@ use mathlib.Core.Path.{◌≡◌, refl, sym, ap, ◌∙◌, subst}
 use mathlib.Core.Bool.{Bool, true, false, ◌&&◌, ◌||◌, false≢true}
 use mathlib.Core.List.{List, [], ◌∷◌}
 use mathlib.Core.Logic.{◌⊎◌, inl, inr}
-use mathlib.Core.Option.{Option}
+use Rattle.std.specs.Prelude.{Option, None, Some}
 use Prim.Native.Nat.{◌-◌, ◌*◌, ◌≤◌}
 use native.Mathlib.Omega.{arith}
 use lib.Ieee.{Float, binary64, fits, is_nan}
@@ -25,8 +25,6 @@ use Rattle.hagerzhang_rules.specs.declared.Bracket.{Bracket}
 use Rattle.hagerzhang_rules.specs.declared.Setup.{Setup}
 use Rattle.hagerzhang_rules.specs.declared.Came.{Came}
 use Rattle.hagerzhang_rules.specs.declared.Came.TheVariants.{To, On}
-use Rattle.hagerzhang_rules.specs.declared.Further.{Further}
-use Rattle.hagerzhang_rules.specs.declared.Further.TheVariants.{Nothing, At}
 use Rattle.hagerzhang_rules.specs.Rules.{point, outside, update_of, narrowed_of, secant_of, S4, L2, trial, update}
 use Rattle.hagerzhang_rules.specs.Rules.{further, after_s4, iteration_by, Summary, Report}
 use Rattle.hagerzhang_rules.specs.Brackets.{Ordered, Lies, Within}
@@ -139,7 +137,7 @@ module _ (s : Setup) (k : Report) (w : Bracket) where
   L2-ends : (u : Bracket) → Ends P (after_s4 s inl k w u (leaves u))
   unfolding after_s4 L2 further
   L2-ends u =
-      by_cases (λ (e : Further). Ends P (further s inl k e u (leaves u))) (too_wide gamma w u)
+      by_cases (λ (e : Option Float). Ends P (further s inl k e u (leaves u))) (too_wide gamma w u)
       (λ wide.
       passes.tries s inl k (OneEnds P) (λ why. refused) (λ x then go. waiting go) (m u)
       (λ i c. update s inl k u c (leaves u)) (λ fm f g. m-parts u f g wide fm (m_inside u) refl))
@@ -212,11 +210,11 @@ module _ (s : Setup) (k : Report) (w : Bracket) (fw : steps_finite w ≡ true) w
       (narrowed-finite s.level) (update_of s.level u c) (updated-finite s.level u c fu fx) (λ i. then c)
       (λ v f. go c v (finite-to f)))
 
-  further-finite : (e : Further) (u : Bracket) (then : Then) → steps_finite u ≡ true
+  further-finite : (e : Option Float) (u : Bracket) (then : Then) → steps_finite u ≡ true
       → ((v : Bracket) → steps_finite v ≡ true → Ends F (then v)) → Ends F (further s inl k e u then)
   unfolding further
-  further-finite Nothing u then fu go = go u fu
-  further-finite (At x) u then fu go = tried-finite x u (λ c. then) fu (λ c. go)
+  further-finite None u then fu go = go u fu
+  further-finite (Some x) u then fu go = tried-finite x u (λ c. then) fu (λ c. go)
 
   -- S1 and S4; L2 leaves (A, Z) what it was
   before-ends : Ends F (alone s k w)

@@ -4,7 +4,6 @@ use mathlib.Core.Path.{◌≡◌, refl, ap, ◌∙◌}
 use mathlib.Core.Bool.{true, false, ◌&&◌, false≢true}
 use mathlib.Core.List.{List, [], ◌∷◌}
 use mathlib.Core.Logic.{inl, inr}
-use mathlib.Core.Option.{some}
 use Prim.Native.Nat.{ℕ, zero, suc, ◌*◌, ◌^◌}
 use lib.IntN.{negsuc}
 use lib.Ieee.{Float, binary64, fin, add, sub, mul, div, neg, le, lt, eq, of_bits, of_int}
@@ -16,8 +15,7 @@ use Rattle.refusals.specs.Results.{value}
 use Rattle.hagerzhang_rules.specs.declared.Point.{Point}
 use Rattle.hagerzhang_rules.specs.declared.Bracket.{Bracket}
 use Rattle.hagerzhang_rules.specs.declared.Came.TheVariants.{To, On}
-use Rattle.hagerzhang_rules.specs.declared.Further.{Further}
-use Rattle.hagerzhang_rules.specs.declared.Further.TheVariants.{Nothing, At}
+use Rattle.std.specs.Prelude.{Option, None, Some}
 use Rattle.hagerzhang_rules.specs.Rules.{point, bracket, answer_finite, update_of, middle_of, is_between, narrowed_of}
 use Rattle.hagerzhang_rules.specs.Rules.{secant_of, S2, S3, S4, L2, asking, trial, between, U3, updating, update}
 use Rattle.hagerzhang_rules.specs.Rules.{further, after_s4, iteration_by, Report}
@@ -60,7 +58,7 @@ module _ (gamma : Float) (k : Report) (w : Bracket) where
   comes (suc n) u then plays = plays
 
   abbrev To-bracket : Bracket → Point → Bracket → Type 0
-  To-bracket z c u = update_of (whole 1) z c ≡ some (To u)
+  To-bracket z c u = update_of (whole 1) z c ≡ Some (To u)
 
   updates : {asked : List Point} (z : Bracket) (c : Point) (u : Bracket) (then : Then) → To-bracket z c u
       → There asked (update (setup gamma) inl k z c then) → There asked (then u)
@@ -69,7 +67,7 @@ module _ (gamma : Float) (k : Report) (w : Bracket) where
 
   -- or U3 between h and x came to u by one answer
   narrowed : {asked : List Point} (z : Bracket) (c h : Point) (x : Float) (d : Point) (u : Bracket) (then : Then)
-      → update_of (whole 1) z c ≡ some (On h x) → middle_of ½ h x ≡ d.x → point_finite d ≡ true
+      → update_of (whole 1) z c ≡ Some (On h x) → middle_of ½ h x ≡ d.x → point_finite d ≡ true
       → is_between h x d.x ≡ true → narrowed_of (whole 1) h x d ≡ To u
       → There asked (update (setup gamma) inl k z c then) → There (d ∷ asked) (then u)
   unfolding updating U3 between trial
@@ -78,13 +76,13 @@ module _ (gamma : Float) (k : Report) (w : Bracket) where
       comes 99 u then (rw to-u at (answers d on fd (rw (is, at, x-finite d fd, strictly) at plays)))
 
   -- a further trial, or none
-  asks : {asked : List Point} (e : Further) (z : Bracket) (d : Point) (then : Then) → e ≡ At d.x
+  asks : {asked : List Point} (e : Option Float) (z : Bracket) (d : Point) (then : Then) → e ≡ Some d.x
       → point_finite d ≡ true → There asked (further (setup gamma) inl k e z then)
       → There (d ∷ asked) (update (setup gamma) inl k z d then)
   unfolding further
   asks e z d then is fd plays = tries d d.x (λ c. update (setup gamma) inl k z c then) refl fd (rw is at plays)
 
-  asks_none : {asked : List Point} (e : Further) (z : Bracket) (then : Then) → e ≡ Nothing
+  asks_none : {asked : List Point} (e : Option Float) (z : Bracket) (then : Then) → e ≡ None
       → There asked (further (setup gamma) inl k e z then) → There asked (then z)
   unfolding further
   asks_none e z then is plays = rw is at plays
@@ -101,11 +99,11 @@ module _ (gamma : Float) (k : Report) (w : Bracket) where
       (tries c (secant_of w.a w.b) _ at fc not_yet)
 
   -- L2 asks nothing, or d
-  kept : {asked : List Point} (v : Bracket) → L2 gamma w v ≡ Nothing → There asked (behind v) → There asked (leaves v v)
+  kept : {asked : List Point} (v : Bracket) → L2 gamma w v ≡ None → There asked (behind v) → There asked (leaves v v)
   unfolding after_s4
   kept v is plays = asks_none (L2 gamma w v) v (leaves v) is plays
 
-  L2s : {asked : List Point} (v : Bracket) (d : Point) → L2 gamma w v ≡ At d.x → point_finite d ≡ true
+  L2s : {asked : List Point} (v : Bracket) (d : Point) → L2 gamma w v ≡ Some d.x → point_finite d ≡ true
       → There asked (behind v) → There (d ∷ asked) (update (setup gamma) inl k v d (leaves v))
   unfolding after_s4
   L2s v d is fd plays = asks (L2 gamma w v) v d (leaves v) is fd plays
@@ -115,7 +113,7 @@ abbrev c : Point
 c = point (whole 1) (whole 1) (minus (whole 1))
 
 narrows : (k : Report) (d : Point) (v : Bracket) → d.x ≡ whole 2 → point_finite d ≡ true
-    → To-bracket ½ k ab (bracket c b) d v → L2 ½ ab v ≡ Nothing → Plays (alone (setup ½) k ab) (d ∷ c ∷ []) (leaves v v)
+    → To-bracket ½ k ab (bracket c b) d v → L2 ½ ab v ≡ None → Plays (alone (setup ½) k ab) (d ∷ c ∷ []) (leaves v v)
 unfolding update_of S2 S3 add sub mul div neg le lt eq of_bits of_int
 narrows k d v at fd is none =
     kept ½ k ab v none
@@ -139,12 +137,12 @@ S1-to-S4 gamma k =
     (S1s gamma k ab c' (bracket c' b) refl refl refl))
 
 -- 2.5 by way of its own form: the checker takes too long where it compares the two quotients as they are written
-asks-m : L2 ½ ab (bracket c' b) ≡ At (quarters 10)
+asks-m : L2 ½ ab (bracket c' b) ≡ Some (quarters 10)
 unfolding L2 add sub mul div neg lt of_bits of_int
 asks-m =
-    let as-halves : L2 ½ ab (bracket c' b) ≡ At (fin false 5 (negsuc 0)) = refl in
+    let as-halves : L2 ½ ab (bracket c' b) ≡ Some (fin false 5 (negsuc 0)) = refl in
     let as-quarters : fin false 5 (negsuc 0) ≡ quarters 10 = refl in
-    as-halves ∙ ap At as-quarters
+    as-halves ∙ ap Some as-quarters
 
 halves : (k : Report) (d : Point) → d.x ≡ quarters 10 → point_finite d ≡ true
     → Plays (alone (setup ½) k ab) (d ∷ e ∷ c' ∷ []) (update (setup ½) inl k (bracket c' b) d (leaves (bracket c' b)))
@@ -166,7 +164,7 @@ d = point (quarters 7) (whole 3) (whole 1)
 
 -- S1 asks b's step, no e is given, and m is asked
 none-given : (k : Report) (w : Bracket) (d : Point) → secant_of w.a w.b ≡ w.b.x → point_finite w.b ≡ true
-    → To-bracket ½ k w w w.b w → S4 w w.b.x w ≡ Nothing → L2 ½ w w ≡ At d.x → point_finite d ≡ true
+    → To-bracket ½ k w w w.b w → S4 w w.b.x w ≡ None → L2 ½ w w ≡ Some d.x → point_finite d ≡ true
     → Plays (alone (setup ½) k w) (d ∷ w.b ∷ []) (update (setup ½) inl k w d (leaves w))
 none-given k w d at fb is none asked fd =
     L2s ½ k w w d asked fd

@@ -1,14 +1,14 @@
 -- 01's twelve marked sums, M8 as 02's request 4 has it, hold of the written rules, as one list under a single claim
 -- (specs/MarkedSums.antt): by computing in f64. Assumes nothing.
 use mathlib.Core.Path.{◌≡◌, refl, ap, ◌∙◌}
-use mathlib.Core.Bool.{Bool, true, cond}
+use mathlib.Core.Bool.{Bool, true, false, cond}
 use mathlib.Core.List.{List, [], ◌∷◌}
-use lib.Ieee.{Float, add, sub, mul, div, neg, le, lt, eq, of_bits, of_int}
+use lib.IntN.{negsuc}
+use lib.Ieee.{Float, fin, add, sub, mul, div, neg, le, lt, eq, of_bits, of_int}
 use Rattle.floats.specs.Numerals.{whole}
 use Rattle.runs.specs.Outcomes.{answer_not_finite}
 use Rattle.runs.specs.Asking.{end}
-use mathlib.Core.Option.{some}
-use Rattle.hagerzhang_rules.specs.declared.Further.TheVariants.{Nothing, At}
+use Rattle.std.specs.Prelude.{None, Some}
 use Rattle.hagerzhang_rules.specs.declared.Came.TheVariants.{To}
 use Rattle.hagerzhang_rules.specs.Rules.{point, answer_finite, secant_of, S4, update, update_of, narrowed_of, S2, S3}
 use Rattle.hagerzhang_rules.specs.Rules.{L2, best_over, trial, between, U3, updating, further, after_s4}
@@ -23,17 +23,21 @@ behind f g =
     further (setup 100) by_number tt (S4 at-minimum (secant_of a low) u) u λ v.
     after_s4 (setup 100) by_number tt at-minimum v becomes
 
-unchanged : (f g : Float) → update_of (setup 100).level at-minimum (point (secant_of a low) f g) ≡ some (To at-minimum)
+unchanged : (f g : Float) → update_of (setup 100).level at-minimum (point (secant_of a low) f g) ≡ Some (To at-minimum)
 unfolding update_of add sub mul div neg le lt eq of_bits of_int
 unchanged f g = refl
 
-no-e : S4 at-minimum (secant_of a low) at-minimum ≡ Nothing
+no-e : S4 at-minimum (secant_of a low) at-minimum ≡ None
 unfolding S2 S3 add sub mul div neg le lt eq of_bits of_int
 no-e = refl
 
-halves : L2 (setup 100).options.params.gamma at-minimum at-minimum ≡ At ½
+-- 0.5 by way of its own form: the checker takes too long where it compares the two quotients as they are written
+halves : L2 (setup 100).options.params.gamma at-minimum at-minimum ≡ Some ½
 unfolding L2 add sub mul div neg le lt eq of_bits of_int
-halves = refl
+halves =
+    let as-form : L2 (setup 100).options.params.gamma at-minimum at-minimum ≡ Some (fin false 1 (negsuc 0)) = refl in
+    let as-half : fin false 1 (negsuc 0) ≡ ½ = refl in
+    as-form ∙ ap Some as-half
 
 then-½ : (f g : Float) → steps (behind f g) [] ≡ ½ ∷ []
 unfolding steps after_s4 further trial U3 updating of_bits of_int mul div neg

@@ -7,7 +7,7 @@ use mathlib.Core.Path.{◌≡◌, refl, sym, ◌∙◌, subst}
 use mathlib.Core.Bool.{Bool, true, false, cond, ◌&&◌, false≢true}
 use mathlib.Core.List.{List}
 use mathlib.Core.Logic.{◌⊎◌, inl, inr}
-use mathlib.Core.Option.{Option, some, none}
+use Rattle.std.specs.Prelude.{Option, Some, None}
 use Prim.Native.Nat.{ℕ, zero, suc}
 use lib.Ieee.{Float}
 use lib.Ieee.Scale.{finite}
@@ -23,10 +23,6 @@ use Rattle.hagerzhang_rules.specs.declared.Way.TheVariants.{Bounded, Growing}
 use Rattle.hagerzhang_rules.specs.declared.Setup.{Setup}
 use Rattle.hagerzhang_rules.specs.declared.Came.{Came}
 use Rattle.hagerzhang_rules.specs.declared.Came.TheVariants.{To, On}
-use Rattle.hagerzhang_rules.specs.declared.Grown.{Grown}
-use Rattle.hagerzhang_rules.specs.declared.Grown.TheVariants.{Enough, TooShort}
-use Rattle.hagerzhang_rules.specs.declared.Further.{Further}
-use Rattle.hagerzhang_rules.specs.declared.Further.TheVariants.{Nothing, At}
 use Rattle.hagerzhang_rules.specs.Rules.{point, bracket, answer_finite, outside, update_of, middle_of, is_between}
 use Rattle.hagerzhang_rules.specs.Rules.{narrowed_of, zero_of, grown_of, longer_of, secant_of, asking, trial, between}
 use Rattle.hagerzhang_rules.specs.Rules.{U3, updating, update, further, ask_start, ask_high, enough, growth}
@@ -43,8 +39,8 @@ pub data Kept (w : Bracket) : Came → Type 0 where
 
 -- what U0 to U2 come to is P, if it is anything
 pub data IfAny (P : Came → Type 0) : Option Came → Type 0 where
-  if_some : {came : Came} → P came → IfAny P (some came)
-  if_none : IfAny P none
+  if_some : {came : Came} → P came → IfAny P (Some came)
+  if_none : IfAny P None
 
 updated-kept : (L : Float) (w : Bracket) (c : Point) → IfAny (Kept w) (update_of L w c)
 unfolding update_of
@@ -131,8 +127,8 @@ module _ {I K R : Type 0} (s : Setup) (refuse : Why → R) (kept : K) (Q : (I �
   pub updates-by : (P : Came → Type 0) → StaysBy s.level P → (o : Option Came) → IfAny P o → (then : OnBracket)
       → ((u : Bracket) → P (To u) → Q (λ i. then i u)) → Q (λ i. updating s refuse kept o (then i))
   unfolding updating
-  updates-by P stays (some came) (if_some p) then go = narrows P stays s.options.budget came p then go
-  updates-by P stays none p then go = over _
+  updates-by P stays (Some came) (if_some p) then go = narrows P stays s.options.budget came p then go
+  updates-by P stays None p then go = over _
 
   pub updates : (w : Bracket) (c : Point) (then : OnBracket) → ((u : Bracket) → Kept w (To u) → Q (λ i. then i u))
       → Q (λ i. update s refuse kept w c (then i))
@@ -140,14 +136,14 @@ module _ {I K R : Type 0} (s : Setup) (refuse : Why → R) (kept : K) (Q : (I �
       updates-by (Kept w) (λ h k d strictly. narrowed-kept w h k d strictly s.level) (update_of s.level w c)
       (updated-kept s.level w c)
 
-  pub goes_further : (e : Further) (u : Bracket) (then : OnBracket) → ((v : Bracket) → Q (λ i. then i v))
+  pub goes_further : (e : Option Float) (u : Bracket) (then : OnBracket) → ((v : Bracket) → Q (λ i. then i v))
       → Q (λ i. further s refuse kept e u (then i))
   unfolding further
-  goes_further Nothing u then go = go u
-  goes_further (At x) u then go = tries x _ (λ fx f g. updates u (point x f g) then (λ v p. go v))
+  goes_further None u then go = go u
+  goes_further (Some x) u then go = tries x _ (λ fx f g. updates u (point x f g) then (λ v p. go v))
 
   -- two in a row, the second by what the first came to
-  pub goes-on-further : (e : Further) (u : Bracket) (e' : Bracket → Further) (then : I → Bracket → Bracket → Run K R)
+  pub goes-on-further : (e : Option Float) (u : Bracket) (e' : Bracket → Option Float) (then : I → Bracket → Bracket → Run K R)
       → ((v z : Bracket) → Q (λ i. then i v z))
       → Q (λ i. further s refuse kept e u (λ v. further s refuse kept (e' v) v (then i v)))
   goes-on-further e u e' then go = goes_further e u _ (λ v. goes_further (e' v) v (λ i. then i v) (go v))
@@ -161,14 +157,14 @@ module _ {I K R : Type 0} (s : Setup) (refuse : Why → R) (kept : K) (Q : (I �
       tries x _ (λ fx f g. updates w (point x f g) (λ i. then i (point x f g)) (go (point x f g)))
 
   -- ---- either start
-  enoughs : (grown : Grown) (then : OnBracket) (otherwise : I → Run K R) → ((u : Bracket) → Q (λ i. then i u))
+  enoughs : (grown : Option Came) (then : OnBracket) (otherwise : I → Run K R) → ((u : Bracket) → Q (λ i. then i u))
       → Q otherwise → Q (λ i. enough s refuse kept grown (then i) (otherwise i))
   unfolding enough
-  enoughs (Enough came) then otherwise go more =
+  enoughs (Some came) then otherwise go more =
       narrows (λ came. Unit {0}) (λ h k d strictly p. tt) s.options.budget came tt then (λ u p. go u)
-  enoughs TooShort then otherwise go more = more
+  enoughs None then otherwise go more = more
 
-  pub grows : (n : ℕ) (t : Point) (grown : Grown) (then : OnBracket) → ((u : Bracket) → Q (λ i. then i u))
+  pub grows : (n : ℕ) (t : Point) (grown : Option Came) (then : OnBracket) → ((u : Bracket) → Q (λ i. then i u))
       → Q (λ i. growth s refuse kept n t grown (then i))
   unfolding growth
   grows zero t grown then go = enoughs grown then _ go (over _)
@@ -200,7 +196,7 @@ module _ {I K R : Type 0} (s : Setup) (refuse : Why → R) (kept : K) (Q : (I �
       asks e.min (λ i a. ask_high s refuse kept e.max a (then i))
       (λ f g. ask-high e.max (point e.min f g) then go)
   starts (Growing n) then go =
-      let first : Point → Grown = λ c. grown_of s.level (zero_of s) (zero_of s) c in
+      let first : Point → Option Came = λ c. grown_of s.level (zero_of s) (zero_of s) c in
       asks s.options.params.start (λ i c. growth s refuse kept n c (first c) (then i c)) (λ f g.
       let c = point s.options.params.start f g in
       grows n c (first c) (λ i. then i c) (go c))

@@ -8,7 +8,7 @@
 use mathlib.Core.Path.{◌≡◌, refl, sym, ◌∙◌}
 use mathlib.Core.Bool.{Bool, true, false, ◌&&◌, false≢true}
 use mathlib.Core.List.{List, [], ◌∷◌}
-use mathlib.Core.Option.{Option, some}
+use Rattle.std.specs.Prelude.{Option, Some}
 use lib.Ieee.{Float, is_nan}
 use lib.Ieee.Scale.{finite}
 use Rattle.floats.specs.Arithmetic.{◌<ᶠ◌, ◌≤ᶠ◌, ◌>ᶠ◌, ◌≥ᶠ◌, 0ᶠ}
@@ -71,7 +71,7 @@ pub data SoundCame (L : Float) (F : Frame) (asked : List Point) : Came → Type 
 
 -- an update comes to one of these, and never to the Rust's error
 pub data SoundUpdate (L : Float) (F : Frame) (asked : List Point) : Option Came → Type 0 where
-  reaches : {came : Came} → SoundCame L F asked came → SoundUpdate L F asked (some came)
+  reaches : {came : Came} → SoundCame L F asked came → SoundUpdate L F asked (Some came)
 
 -- what it says of the whole
 pub sound-premise : {L : Float} {F : Frame} {asked : List Point} {u : Bracket} → Sound L F asked u → F.low.owed

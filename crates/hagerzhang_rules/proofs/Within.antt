@@ -4,7 +4,7 @@ use mathlib.Core.Path.{◌≡◌, refl, ap}
 use mathlib.Core.Bool.{true, cond}
 use mathlib.Core.List.{List, ◌∷◌}
 use mathlib.Core.Logic.{inl}
-use mathlib.Core.Option.{Option, some}
+use Rattle.std.specs.Prelude.{Option, Some}
 use Prim.Native.Nat.{ℕ, zero, suc, ◌+◌, ◌≤◌, ◌<◌}
 use native.Mathlib.Omega.{arith}
 use lib.ListN.{length}
@@ -46,7 +46,7 @@ asking-arrives {s} {k} asked x then fine asks go =
 module _ {R : Type 0} (s : Setup) (k : Report) (whole : Alone R) (F : Frame) where
   -- it has come to the bracket u, and goes on by itself as r
   pub record Comes (asked : List Point) (u : Bracket) (r : Alone R) : Type 0 where
-    pub stands : standing s k asked ≡ some (To u)
+    pub stands : standing s k asked ≡ Some (To u)
     pub sound : Sound s.level F asked u
     pub there : Plays whole asked r
 
@@ -90,7 +90,7 @@ module _ {R : Type 0} (s : Setup) (k : Report) (fine : Fine s k) (allowed : Allo
       go f g e (rw e at (then-asked at f g)))
 
   pub narrows : (m : ℕ) (asked : List Point) (came : Came) (then : Bracket → Rest Report) (then' : Bracket → Alone R)
-      → length asked + m ≤ most_at s k → standing s k asked ≡ some came → had s k asked + m ≡ s.options.budget
+      → length asked + m ≤ most_at s k → standing s k asked ≡ Some came → had s k asked + m ≡ s.options.budget
       → There asked (U3 s inl k m came then') → SoundCame s.level F asked came
       → Goes s k whole F (length asked + m) then then' → Here asked (U3 s (keeping k) k m came then)
   unfolding U3 between

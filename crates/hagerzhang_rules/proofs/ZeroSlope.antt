@@ -5,7 +5,6 @@ use mathlib.Core.Path.{◌≡◌, refl, sym, ap, ap₂, ◌∙◌, subst, fun_ex
 use mathlib.Core.Bool.{Bool, true, false, not, cond, ◌&&◌, false≢true}
 use mathlib.Core.List.{List, [], ◌∷◌}
 use mathlib.Core.Logic.{◌⊎◌, inl, inr}
-use mathlib.Core.Option.{none}
 use Prim.Native.Nat.{ℕ, zero, suc, ◌+◌}
 use lib.Ieee.{Float, is_nan, of_bits}
 use lib.Ieee.Scale.{finite}
@@ -21,16 +20,14 @@ use Rattle.runs.specs.Outcomes.{limit, asks, ends, refusal, step_not_finite, ref
 use Rattle.runs.specs.Asking.{ask, end, Rest, Ended, end_with, keeping, Reply, shown, respond, outcomes, after}
 use Rattle.runs.specs.Asking.{reported}
 use Rattle.runs.specs.Asking.{awaits}
+use Rattle.runs.specs.declared.Verdict.{Verdict}
 use Rattle.hagerzhang_rules.specs.declared.Point.{Point}
 use Rattle.hagerzhang_rules.specs.declared.Bracket.{Bracket}
 use Rattle.hagerzhang_rules.specs.declared.Way.{Way}
 use Rattle.hagerzhang_rules.specs.declared.Way.TheVariants.{Bounded, Growing}
 use Rattle.hagerzhang_rules.specs.declared.Setup.{Setup}
 use Rattle.hagerzhang_rules.specs.declared.Came.TheVariants.{To}
-use Rattle.hagerzhang_rules.specs.declared.Further.{Further}
-use Rattle.hagerzhang_rules.specs.declared.Further.TheVariants.{Nothing, At}
-use Rattle.hagerzhang_rules.specs.declared.Judged.{Judged}
-use Rattle.hagerzhang_rules.specs.declared.Judged.TheVariants.{Holds, Fails}
+use Rattle.std.specs.Prelude.{Option, None, Some}
 use Rattle.hagerzhang_rules.specs.Brackets.{Ordered}
 use Rattle.hagerzhang_rules.specs.ZeroSlope.{former_s2, former_s3, former_s4, formerly, Changes, GivesNan, OfUpdate}
 use Rattle.hagerzhang_rules.specs.ZeroSlope.{update_alone, unless_five, former_but, marked, Alike, Parts, ZeroSlope}
@@ -57,7 +54,7 @@ same-high w p (inr inside) same =
     absurd (false≢true (sym (neither-second (p.x ≤ᶠ w.a.x) (p.x ≥ᶠ w.b.x) inside) ∙ eq→le w.b.x p.x same))
 
 -- a rule of e at one end, q, which was p: `near` is 01's test, `same` request 4's
-silent : (near same : Bool) (e : Float) → same ≡ true → when (near && not same) e ≡ Nothing
+silent : (near same : Bool) (e : Float) → same ≡ true → when (near && not same) e ≡ None
 silent true true e is = refl
 silent false true e is = refl
 silent near false e is = absurd (false≢true is)
@@ -85,22 +82,22 @@ changed w cx u = record {
   S2-stays = stays (is_near cx u.b.x) (equal_steps w.b u.b) _;
   S3-silent = silent (is_near cx u.a.x) (equal_steps w.a u.a) _;
   S3-stays = stays (is_near cx u.a.x) (equal_steps w.a u.a) _;
-  overwrites = λ e is. ap (λ (d : Further). or_else d (S2 w cx u)) is;
-  earlier-stays = λ is. ap (λ (d : Further). or_else d (S2 w cx u)) is;
+  overwrites = λ e is. ap (λ (d : Option Float). or_else d (S2 w cx u)) is;
+  earlier-stays = λ is. ap (λ (d : Option Float). or_else d (S2 w cx u)) is;
 }
 
 -- S3's e stands over S2's, in today's rules, d, and in 01's, e
-over : (d3 e3 d2 e2 : Further) → (d3 ≡ e3) ⊎ GivesNan e3 → (d2 ≡ e2) ⊎ GivesNan e2
+over : (d3 e3 d2 e2 : Option Float) → (d3 ≡ e3) ⊎ GivesNan e3 → (d2 ≡ e2) ⊎ GivesNan e2
     → (or_else d3 d2 ≡ or_else e3 e2) ⊎ GivesNan (or_else e3 e2)
 over d3 e3 d2 e2 (inr n) either =
     inr (record {
       step = n.step;
-      given = ap (λ (e : Further). or_else e e2) n.given;
+      given = ap (λ (e : Option Float). or_else e e2) n.given;
       not-a-number = n.not-a-number;
     })
 over d3 e3 d2 e2 (inl p) (inl q) = inl (ap₂ or_else p q)
-over d3 (At x) d2 e2 (inl p) (inr n) = inl (ap (λ (e : Further). or_else e d2) p)
-over d3 Nothing d2 e2 (inl p) (inr n) = inr n
+over d3 (Some x) d2 e2 (inl p) (inr n) = inl (ap (λ (e : Option Float). or_else e d2) p)
+over d3 None d2 e2 (inl p) (inr n) = inr n
 
 -- where p's step is not at most q's they are not equal
 apart : (p q : Point) → p.x ≤ᶠ q.x ≡ false → equal_steps p q ≡ false
@@ -147,14 +144,14 @@ update-kept s w c =
     (λ i v. end (inr v)) (λ u kept. reached kept)
 
 -- ---- the whole search: the same text
-unless-same : (d e : Further) → d ≡ e → d ≡ unless_five e d
-unless-same d Nothing same = same
-unless-same d (At x) same = by_cases (λ (r : Further). d ≡ r) (finite x) (λ is. same) (λ is. refl)
+unless-same : (d e : Option Float) → d ≡ e → d ≡ unless_five e d
+unless-same d None same = same
+unless-same d (Some x) same = by_cases (λ (r : Option Float). d ≡ r) (finite x) (λ is. same) (λ is. refl)
 
-unless-nan : (d e : Further) → GivesNan e → d ≡ unless_five e d
+unless-nan : (d e : Option Float) → GivesNan e → d ≡ unless_five e d
 unless-nan d e n =
-    subst (λ (e : Further). d ≡ unless_five e d) (sym n.given)
-    (by_cases (λ (r : Further). d ≡ r) (finite n.step)
+    subst (λ (e : Option Float). d ≡ unless_five e d) (sym n.given)
+    (by_cases (λ (r : Option Float). d ≡ r) (finite n.step)
     (λ is. absurd (false≢true (sym (finite→real n.step is) ∙ n.not-a-number))) (λ is. refl))
 
 by-now : {w u : Bracket} (cx : Float) → OfUpdate w u → S4 w cx u ≡ former_but S4 w cx u
@@ -165,7 +162,7 @@ by-now {w} {u} cx of =
     ]
 
 -- behind S1: S4, with an e or none, and L2. What comes then has the new bracket alone
-abbrev behind_s1 : Setup → Report → Further → Bracket → Bracket → (Bracket → Rest Report) → Rest Report
+abbrev behind_s1 : Setup → Report → Option Float → Bracket → Bracket → (Bracket → Rest Report) → Rest Report
 behind_s1 s k e w u then = further s (keeping k) k e u (λ v. after_s4 s (keeping k) k w v then)
 
 module _ (s : Setup) where
@@ -184,7 +181,7 @@ module _ (s : Setup) where
       (through-S1 s (keeping k) k (λ (r : Bool → Rest Report). r true ≡ r false) (λ why. refl)
       (λ x then go. ap (λ (t : Float → Float → Rest Report). ask k x t) (fun_ext (λ f. fun_ext (λ g. go f g)))) w
       (λ now d u. behind_s1 s k (rule now w d.x u) w u (later now)) (λ d u kept.
-      ap (λ (e : Further). behind_s1 s k e w u (later true)) (by-now d.x (of-kept w u kept))
+      ap (λ (e : Option Float). behind_s1 s k e w u (later true)) (by-now d.x (of-kept w u kept))
       ∙ ap (λ (t : Bracket → Rest Report). behind_s1 s k (former_but S4 w d.x u) w u t)
       (fun_ext (λ v. rounds-same n v c (i + 1)))))
 
@@ -201,7 +198,7 @@ data Text : Type 0 where
 
 abbrev rule_of : Text → Giving
 rule_of former = former_s4
-rule_of mark = former_but (λ w cx u. At 1ᶠ)
+rule_of mark = former_but (λ w cx u. Some 1ᶠ)
 rule_of now = former_but S4
 
 data Goes : Rest Report → Rest Report → Rest Report → Type 0 where
@@ -214,36 +211,36 @@ data Goes : Rest Report → Rest Report → Rest Report → Type 0 where
 abbrev AllGo : (Text → Rest Report) → Type 0
 AllGo r = Goes (r former) (r mark) (r now)
 
-decided-so : (k : Report) (x : Float) (go : Text → Rest Report) (j : Judged) → AllGo go
+decided-so : (k : Report) (x : Float) (go : Text → Rest Report) (j : Option Verdict) → AllGo go
     → AllGo (λ i. decided k x (go i) j)
 unfolding decided
-decided-so k x go (Holds v) more = all_end
-decided-so k x go Fails more = more
+decided-so k x go (Some v) more = all_end
+decided-so k x go None more = more
 
 module _ (s : Setup) where
   -- behind S1, where the former rule gives e: today's d would stand in its place
   module _ (k : Report) (w u : Bracket) (then : Text → Bracket → Rest Report)
-      (go : (v : Bracket) → AllGo (λ i. then i v)) (d : Further) where
-    abbrev behind : Further → Text → Rest Report
+      (go : (v : Bracket) → AllGo (λ i. then i v)) (d : Option Float) where
+    abbrev behind : Option Float → Text → Rest Report
     behind e i = behind_s1 s k e w u (then i)
 
-    goes : (e : Further) → AllGo (behind e)
+    goes : (e : Option Float) → AllGo (behind e)
     unfolding after_s4
     goes e =
         goes-on-further s (keeping k) k AllGo (λ why. all_end) (λ x then more. all-ask more) e u
         (L2 s.options.params.gamma w) (λ i v. then i) (λ v. go)
 
-    parts : (x : Float) (r3 : Rest Report) → finite x ≡ false → Goes (behind (At x) former) (behind (At 1ᶠ) mark) r3
+    parts : (x : Float) (r3 : Rest Report) → finite x ≡ false → Goes (behind (Some x) former) (behind (Some 1ᶠ) mark) r3
     unfolding further trial of_bits
     parts x r3 e =
-        by_cases (λ (r : Rest Report). Goes r (behind (At 1ᶠ) mark) r3) (finite x)
+        by_cases (λ (r : Rest Report). Goes r (behind (Some 1ᶠ) mark) r3) (finite x)
         (λ is. absurd (false≢true (sym e ∙ is))) (λ is. apart-here)
 
-    by-e : (e : Further) → Goes (behind e former) (behind (unless_five e (At 1ᶠ)) mark) (behind (unless_five e d) now)
-    by-e Nothing = goes Nothing
-    by-e (At x) =
-        by-cases₂ (λ (m e : Further). Goes (behind (At x) former) (behind m mark) (behind e now)) (finite x)
-        (λ is. goes (At x)) (λ isn't. parts x (behind d now) isn't)
+    by-e : (e : Option Float) → Goes (behind e former) (behind (unless_five e (Some 1ᶠ)) mark) (behind (unless_five e d) now)
+    by-e None = goes None
+    by-e (Some x) =
+        by-cases₂ (λ (m e : Option Float). Goes (behind (Some x) former) (behind m mark) (behind e now)) (finite x)
+        (λ is. goes (Some x)) (λ isn't. parts x (behind d now) isn't)
 
   rounds-so : (n : ℕ) (w : Bracket) (c : Point) (i : ℕ) → AllGo (λ t. rounds_by s (rule_of t) n w c i)
   unfolding rounds_by verdict iteration_by
@@ -329,12 +326,12 @@ from-ask (y ∷ ys) k x t1 t2 t3 go =
 
 -- a search begins with an ask
 first-asks : (s : Setup) (way : Way) (then : Point → Bracket → Rest Report)
-    → refusal_in (shown (starting s (keeping nothing_yet) nothing_yet way then)) ≡ none
+    → refusal_in (shown (starting s (keeping nothing_yet) nothing_yet way then)) ≡ None
 unfolding starting shown
 first-asks s (Bounded e) then = refl
 first-asks s (Growing n) then = refl
 
-from_first : (ys : List Reply) {r1 r2 r3 : Rest Report} → Goes r1 r2 r3 → refusal_in (shown r1) ≡ none
+from_first : (ys : List Reply) {r1 r2 r3 : Rest Report} → Goes r1 r2 r3 → refusal_in (shown r1) ≡ None
     → Either r1 r2 r3 ys
 unfolding shown
 from_first ys (all-ask go) e = from-ask ys _ _ _ _ _ go

@@ -1,9 +1,8 @@
 -- Demand 3's words, with request 14's, over the rules of specs/Rules.antt: what was asked in the start or an iteration,
 -- when it is finished and what it leaves; where U3 stands; and why a step is asked, or a search is over.
 use Rattle.std.specs.Prelude.{ℕ, suc, ◌+◌, ◌*◌, ◌≤◌, ◌<◌, ◌≡◌, Bool, true, false, ◌&&◌, List, [], ◌∷◌, ◌⊎◌, length}
-use Rattle.std.specs.Prelude.{Float}
+use Rattle.std.specs.Prelude.{Float, Option, Some, None}
 use Rattle.std.proofs.Common.{inl, inr}
-use Rattle.std.proofs.Math.Option.{Option, some, none}
 use Rattle.std.specs.Float.{binary64}
 use Rattle.std.specs.Float.Ieee.{fits}
 use Rattle.std.specs.Float.Ieee.Scale.{finite}
@@ -21,9 +20,6 @@ use Rattle.hagerzhang_rules.specs.declared.Options.{Options}
 use Rattle.hagerzhang_rules.specs.declared.Setup.{Setup}
 use Rattle.hagerzhang_rules.specs.declared.Came.{Came}
 use Rattle.hagerzhang_rules.specs.declared.Came.TheVariants.{To, On}
-use Rattle.hagerzhang_rules.specs.declared.Grown.{Grown}
-use Rattle.hagerzhang_rules.specs.declared.Grown.TheVariants.{Enough, TooShort}
-use Rattle.hagerzhang_rules.specs.declared.Judged.TheVariants.{Holds, Fails}
 use Rattle.hagerzhang_rules.specs.Brackets.{premise, Ordered, Within}
 use Rattle.hagerzhang_rules.specs.Closing.{Closes, Widths, Exactly}
 use Rattle.hagerzhang_rules.specs.Rules.{point, answer_finite, update_of, middle_of, narrowed_of, zero_of, grown_of}
@@ -145,32 +141,28 @@ pub data Brings (s : Setup) (asked : List Point) : Report → Report → Type 0 
       → Brings s asked (last p) (last q)
 
 -- ---- where the start, or an iteration on the reported bracket, stands once these points are asked: at a bracket, or
--- in U3 with its ends; a start that has come to neither stands at `none`
+-- in U3 with its ends; a start that has come to neither stands at `None`
 
 -- "the last earlier trial (or 0)"
 abbrev pub earlier_of : Setup → List Point → Point
 earlier_of s [] = zero_of s
 earlier_of s (t ∷ asked) = t
 
-abbrev pub came_by : Grown → Option Came
-came_by (Enough came) = some came
-came_by TooShort = none
-
 -- one more answer d of the start; 01's three never stand in U3, and the third finishes the start
 abbrev pub tried : Setup → Way → Point → Point → Option Came
-tried s (Bounded e) earlier d = none
-tried s (Growing K) earlier d = came_by (grown_of s.level (zero_of s) earlier d)
+tried s (Bounded e) earlier d = None
+tried s (Growing K) earlier d = grown_of s.level (zero_of s) earlier d
 
 -- one more answer d; a start that has come to a bracket is finished, and never goes on from it
 abbrev pub led : Setup → Option Came → Report → Point → Point → Option Came
-led s (some (To u)) k earlier d = update_of s.level u d
-led s (some (On h k')) k earlier d = some (narrowed_of s.level h k' d)
-led s none nothing_yet earlier d = tried s s.options.way earlier d
-led s none (last p) earlier d = none
+led s (Some (To u)) k earlier d = update_of s.level u d
+led s (Some (On h k')) k earlier d = Some (narrowed_of s.level h k' d)
+led s None nothing_yet earlier d = tried s s.options.way earlier d
+led s None (last p) earlier d = None
 
 abbrev pub first-standing : Report → Option Came
-first-standing nothing_yet = none
-first-standing (last p) = some (To p.bracket)
+first-standing nothing_yet = None
+first-standing (last p) = Some (To p.bracket)
 
 unfoldable pub standing : Setup → Report → List Point → Option Came
 standing s k [] = first-standing k
@@ -178,9 +170,9 @@ standing s k (d ∷ asked) = led s (standing s k asked) k (earlier_of s asked) d
 
 -- how many answers the U3 run has had
 abbrev pub had_by : Option Came → ℕ → ℕ
-had_by none n = 0
-had_by (some (To u)) n = 0
-had_by (some (On h k)) n = suc n
+had_by None n = 0
+had_by (Some (To u)) n = 0
+had_by (Some (On h k)) n = suc n
 
 unfoldable pub had : Setup → Report → List Point → ℕ
 had s k [] = 0
@@ -188,7 +180,7 @@ had s k (d ∷ asked) = had_by (standing s k asked) (had s k asked)
 
 -- U3 stands between h and k', and its next step is d
 pub record InU3 (s : Setup) (k : Report) (asked : List Point) (h : Point) (k' d : Float) : Type 0 where
-  pub stands : standing s k asked ≡ some (On h k')
+  pub stands : standing s k asked ≡ Some (On h k')
   pub answered : had s k asked < s.options.budget
   pub steps-to : d ≡ middle_of s.options.params.theta h k'
 
@@ -205,10 +197,10 @@ pub data AskedBecause (s : Setup) : Report → List Point → Float → Type 0 w
   as_first : {K : ℕ} → s.options.way ≡ Growing K → finite s.options.params.start ≡ true
       → AskedBecause s nothing_yet [] s.options.params.start
   as-longer : {K : ℕ} {t : Point} {asked : List Point} → s.options.way ≡ Growing K
-      → standing s nothing_yet (t ∷ asked) ≡ none → length asked < K → finite (longer_of t) ≡ true
+      → standing s nothing_yet (t ∷ asked) ≡ None → length asked < K → finite (longer_of t) ≡ true
       → AskedBecause s nothing_yet (t ∷ asked) (longer_of t)
   as-trial : {p : Summary} {asked : List Point} {x : Float} {u : Bracket} {then : Float → Float → Alone Iterated}
-      → standing s (last p) asked ≡ some (To u)
+      → standing s (last p) asked ≡ Some (To u)
       → Plays (alone s (last p) p.bracket) asked (ask (last p) x then)
       → finite x ≡ true
       → AskedBecause s (last p) asked x
@@ -221,29 +213,29 @@ pub data AskedBecause (s : Setup) : Report → List Point → Float → Type 0 w
 
 pub data EndedBecause (s : Setup) : Report → List Point → Ending Why → Type 0 where
   -- "a stop with its verdict and step": of the best
-  by-verdict : {p : Summary} {v : Verdict} → judge_of s p.best ≡ Holds v
+  by-verdict : {p : Summary} {v : Verdict} → judge_of s p.best ≡ Some v
       → EndedBecause s (last p) [] (stop (verdict_word v) p.best.x)
   -- ""limit", with bracket and best of the N-th iteration"
-  by-limit : {p : Summary} → judge_of s p.best ≡ Fails → p.iterations ≡ s.options.limit
+  by-limit : {p : Summary} → judge_of s p.best ≡ None → p.iterations ≡ s.options.limit
       → EndedBecause s (last p) [] (limit p.best.x)
   -- 2: the last answer
   not_finite : {k : Report} {d : Point} {asked : List Point}
       → answer_finite d.f d.g ≡ false → EndedBecause s k (d ∷ asked) (refusal (answer_not_finite d.f d.g))
   -- 5: of a trial, which is the rules' own there, of a start that grows, and in U3
   trial-not-finite : {p : Summary} {asked : List Point} {u : Bracket} {x : Float}
-      → standing s (last p) asked ≡ some (To u)
+      → standing s (last p) asked ≡ Some (To u)
       → Plays (alone s (last p) p.bracket) asked (end (inl (step_not_finite x)))
       → finite x ≡ false
       → EndedBecause s (last p) asked (refusal (step_not_finite x))
   growth-not-finite : {K : ℕ} {t : Point} {asked : List Point} → s.options.way ≡ Growing K
       → answer_finite t.f t.g ≡ true
-      → standing s nothing_yet (t ∷ asked) ≡ none → length asked < K → finite (longer_of t) ≡ false
+      → standing s nothing_yet (t ∷ asked) ≡ None → length asked < K → finite (longer_of t) ≡ false
       → EndedBecause s nothing_yet (t ∷ asked) (refusal (step_not_finite (longer_of t)))
   U3-not-finite : {k : Report} {asked : List Point} {h : Point} {k' x : Float}
       → InU3 s k asked h k' x → finite x ≡ false → EndedBecause s k asked (refusal (step_not_finite x))
   -- 6: "one U3 run has had B answers and the last did not end it"
   budget-spent : {k : Report} {asked : List Point} {h : Point} {k' : Float}
-      → standing s k asked ≡ some (On h k') → had s k asked ≡ s.options.budget
+      → standing s k asked ≡ Some (On h k') → had s k asked ≡ s.options.budget
       → EndedBecause s k asked (refusal (budget_spent h.x k'))
   -- 7: "U3's next step is not strictly between its two ends"
   not-between : {k : Report} {asked : List Point} {h : Point} {k' x : Float}
@@ -252,7 +244,7 @@ pub data EndedBecause (s : Setup) : Report → List Point → Ending Why → Typ
   -- 11 (02, request 3): "if K growths are used up": after the first trial and K longer ones none was enough
   growths-spent : {K : ℕ} {t : Point} {asked : List Point} → s.options.way ≡ Growing K
       → answer_finite t.f t.g ≡ true
-      → standing s nothing_yet (t ∷ asked) ≡ none → length asked ≡ K
+      → standing s nothing_yet (t ∷ asked) ≡ None → length asked ≡ K
       → EndedBecause s nothing_yet (t ∷ asked) (refusal (growths_spent t.x))
   -- 8
   already : {k : Report} {asked : List Point} → EndedBecause s k asked (refusal already_over)

@@ -1,9 +1,8 @@
 -- 01, "The twelve marked sums", about the rules of specs/Rules.antt and of the conditions: one list, as 01 writes it,
 -- with M8 as 02's request 4 mends it; in a setup that 01 accepts. A sum holds for every value of what 01 leaves open in
 -- it. Proved as a single claim, `marked-sums` (proofs/MarkedSums.antt).
-use Rattle.std.specs.Prelude.{◌≡◌, Bool, true, false, ◌⊎◌, List, [], ◌∷◌, ℕ, Float}
+use Rattle.std.specs.Prelude.{◌≡◌, Bool, true, false, ◌⊎◌, List, [], ◌∷◌, ℕ, Float, None, Some}
 use Rattle.std.proofs.Common.{inl, inr}
-use Rattle.std.proofs.Math.Option.{some}
 use Rattle.floats.specs.Numerals.{whole, quarters, minus}
 use Rattle.refusals.specs.Results.{Result, value, refuse◌else◌}
 use Rattle.runs.specs.Outcomes.{Why, number_for}
@@ -15,7 +14,6 @@ use Rattle.hagerzhang_rules.specs.declared.Point.{Point}
 use Rattle.hagerzhang_rules.specs.declared.Bracket.{Bracket}
 use Rattle.hagerzhang_rules.specs.declared.Options.{Options}
 use Rattle.hagerzhang_rules.specs.declared.Setup.{Setup}
-use Rattle.hagerzhang_rules.specs.declared.Further.TheVariants.{Nothing, At}
 use Rattle.hagerzhang_rules.specs.declared.Came.TheVariants.{To}
 use Rattle.hagerzhang_rules.specs.Parameters.{default_options, options_with, setup_of, start_rows}
 use Rattle.hagerzhang_rules.specs.Rules.{point, bracket, answer_finite, secant_of, update_of, S4, L2, best_of, update}
@@ -128,9 +126,9 @@ pub record MarkedSums : Type 0 where
   -- "b = (1,0,0): S1 asks 1, unchanged"; no e, and 02, request 4: "M8 goes on to L2 and asks 0.5."
   pub M8 :
       (steps iterated [] ≡ whole 1 ∷ [])
-      × ((f g : Float) → update_of (whole 1) at-minimum (point (whole 1) f g) ≡ some (To at-minimum))
-      × (S4 at-minimum (whole 1) at-minimum ≡ Nothing)
-      × (L2 (setup 100).options.params.gamma at-minimum at-minimum ≡ At ½)
+      × ((f g : Float) → update_of (whole 1) at-minimum (point (whole 1) f g) ≡ Some (To at-minimum))
+      × (S4 at-minimum (whole 1) at-minimum ≡ None)
+      × (L2 (setup 100).options.params.gamma at-minimum at-minimum ≡ Some ½)
       × ((f g : Float) → answer_finite f g ≡ true → steps iterated ((f, g) ∷ []) ≡ whole 1 ∷ ½ ∷ [])
   -- "costs 2,2,2: best c. Costs 2,2,3: best b", whatever the steps and slopes
   pub M9 :

@@ -1,12 +1,10 @@
 -- 01, "Hager-Zhang rules", with 02's requests 3, "Start bracketing", and 4, "Zero slope at an end", line by line: each
 -- rule once, as a decision; then the flow over them as a run of questions and answers. A point is (x, f, g): step, cost
 -- and slope. A bracket is (a, b). L is the setup's level. The types are declared in src/lib.rt, with their cases: what
--- an answer comes to is `To` a bracket, or `On` in U3 with its ends h and k; a trial of a start that grows was
--- `Enough`, with what it came to, or `TooShort`; a further trial is `At` a step, or there is `Nothing`; a verdict
--- `Holds`, or it `Fails`. The marked sums M1 to M12 are said of this text in specs/MarkedSums.antt. specs/Brackets.antt
+-- an answer comes to is `To` a bracket, or `On` in U3 with its ends h and k. What a trial of a start that grows comes
+-- to is `None` where it was too short; so are a further trial's step, and a verdict, where there is none. The marked sums M1 to M12 are said of this text in specs/MarkedSums.antt. specs/Brackets.antt
 -- and specs/Iterations.antt have the words for what is proved of it along any answers.
-use Rattle.std.specs.Prelude.{ℕ, zero, suc, ◌+◌, Bool, cond, not, ◌&&◌, ◌||◌, Float}
-use Rattle.std.proofs.Math.Option.{Option, some, none}
+use Rattle.std.specs.Prelude.{ℕ, zero, suc, ◌+◌, Bool, cond, not, ◌&&◌, ◌||◌, Float, Option, Some, None}
 use Rattle.std.specs.Float.{binary64}
 use Rattle.std.specs.Float.Ieee.{of_bits}
 use Rattle.std.specs.Float.Ieee.Scale.{finite}
@@ -24,12 +22,7 @@ use Rattle.hagerzhang_rules.specs.declared.Way.TheVariants.{Bounded, Growing}
 use Rattle.hagerzhang_rules.specs.declared.Setup.{Setup}
 use Rattle.hagerzhang_rules.specs.declared.Came.{Came}
 use Rattle.hagerzhang_rules.specs.declared.Came.TheVariants.{To, On}
-use Rattle.hagerzhang_rules.specs.declared.Grown.{Grown}
-use Rattle.hagerzhang_rules.specs.declared.Grown.TheVariants.{Enough, TooShort}
-use Rattle.hagerzhang_rules.specs.declared.Further.{Further}
-use Rattle.hagerzhang_rules.specs.declared.Further.TheVariants.{Nothing, At}
-use Rattle.hagerzhang_rules.specs.declared.Judged.{Judged}
-use Rattle.hagerzhang_rules.specs.declared.Judged.TheVariants.{Holds, Fails}
+use Rattle.runs.specs.declared.Verdict.{Verdict}
 
 abbrev pub point : Float → Float → Float → Point
 point x f g = record { x = x; f = f; g = g }
@@ -51,14 +44,14 @@ abbrev pub outside : Bracket → Point → Bool
 outside w c = c.x ≤ᶠ w.a.x || c.x ≥ᶠ w.b.x
 
 -- U0, then U1: "c.g >= 0 (minus zero too): (a, c)". U2: "c.g < 0, c.f <= L: (c, b)". U3: "c.g < 0, c.f > L: ends h = a,
--- k = c.x", and goes on. Where no guard holds the Rust ends with its error "unreachable point": `none`.
+-- k = c.x", and goes on. Where no guard holds the Rust ends with its error "unreachable point": `None`.
 unfoldable pub update_of : Float → Bracket → Point → Option Came
 update_of L w c =
-    cond (outside w c) (some (To w))
-    (cond (c.g ≥ᶠ 0ᶠ) (some (To (bracket w.a c)))
-    (cond (c.g <ᶠ 0ᶠ && c.f ≤ᶠ L) (some (To (bracket c w.b)))
-    (cond (c.g <ᶠ 0ᶠ && c.f >ᶠ L) (some (On w.a c.x))
-    none)))
+    cond (outside w c) (Some (To w))
+    (cond (c.g ≥ᶠ 0ᶠ) (Some (To (bracket w.a c)))
+    (cond (c.g <ᶠ 0ᶠ && c.f ≤ᶠ L) (Some (To (bracket c w.b)))
+    (cond (c.g <ᶠ 0ᶠ && c.f >ᶠ L) (Some (On w.a c.x))
+    None)))
 
 -- "Ask d.x = (1-theta)*h.x + theta*k."
 abbrev pub middle_of : Float → Point → Float → Float
@@ -84,11 +77,11 @@ zero_of s = point 0ᶠ s.f0 s.s0
 -- "If the trial's slope >= 0, the bracket runs from the last earlier trial (or 0) to it. If its slope < 0 and its cost
 -- > L, run U3 from 0 to it. Otherwise multiply the step by 5 and ask again": `low` is the point at 0, `earlier` the
 -- last earlier trial or that
-unfoldable pub grown_of : Float → Point → Point → Point → Grown
+unfoldable pub grown_of : Float → Point → Point → Point → Option Came
 grown_of L low earlier t =
-    cond (t.g ≥ᶠ 0ᶠ) (Enough (To (bracket earlier t)))
-    (cond (t.g <ᶠ 0ᶠ && t.f >ᶠ L) (Enough (On low t.x))
-    TooShort)
+    cond (t.g ≥ᶠ 0ᶠ) (Some (To (bracket earlier t)))
+    (cond (t.g <ᶠ 0ᶠ && t.f >ᶠ L) (Some (On low t.x))
+    None)
 
 abbrev pub longer_of : Point → Float
 longer_of t = 5ᶠ ⊗ t.x
@@ -103,12 +96,12 @@ abbrev pub is_near : Float → Float → Bool
 is_near x y = abs_of (x ⊖ y) <ᶠ EPS
 
 -- a further trial, where the test holds
-abbrev pub when : Bool → Float → Further
-when test x = cond test (At x) Nothing
+abbrev pub when : Bool → Float → Option Float
+when test x = cond test (Some x) None
 
-abbrev pub or_else : Further → Further → Further
-or_else (At x) d = At x
-or_else Nothing d = d
+abbrev pub or_else : Option Float → Option Float → Option Float
+or_else (Some x) d = Some x
+or_else None d = d
 
 -- 02, request 4: "equal steps", as numbers, so that both zeros are equal
 abbrev pub equal_steps : Point → Point → Bool
@@ -116,7 +109,7 @@ equal_steps p q = p.x =ᶠ q.x
 
 -- a rule that may give e
 abbrev pub Giving : Type 0
-Giving = Bracket → Float → Bracket → Further
+Giving = Bracket → Float → Bracket → Option Float
 
 -- "S2: if |c.x - Z.x| < EPS, e = secant(b, Z)." 02, request 4: "S2 gives no e when b and Z have equal steps"
 unfoldable pub S2 : Giving
@@ -132,7 +125,7 @@ abbrev pub S4 : Giving
 S4 w cx u = or_else (S3 w cx u) (S2 w cx u)
 
 -- "L2: if Z.x - A.x > gamma*(b.x - a.x), ask (A.x + Z.x)/2 and update."
-unfoldable pub L2 : Float → Bracket → Bracket → Further
+unfoldable pub L2 : Float → Bracket → Bracket → Option Float
 L2 gamma w u = when (u.b.x ⊖ u.a.x >ᶠ gamma ⊗ (w.b.x ⊖ w.a.x)) ((u.a.x ⊕ u.b.x) ⊘ 2ᶠ)
 
 -- ---- "Best: if a.f <= b.f and a.f <= c.f take a; then b by the same test, overriding; then c, overriding."
@@ -161,8 +154,8 @@ approximate_holds s p =
     ((2ᶠ ⊗ s.options.params.delta ⊖ 1ᶠ) ⊗ s.s0 ≥ᶠ p.g) && (p.g ≥ᶠ s.options.params.sigma ⊗ s.s0)
     && (p.f ≤ᶠ s.level)
 
-unfoldable pub judge_of : Setup → Point → Judged
-judge_of s p = cond (wolfe_holds s p) (Holds Wolfe) (cond (approximate_holds s p) (Holds Approximate) Fails)
+unfoldable pub judge_of : Setup → Point → Option Verdict
+judge_of s p = cond (wolfe_holds s p) (Some Wolfe) (cond (approximate_holds s p) (Some Approximate) None)
 
 -- ---- the flow. `kept`, of any type K, is what is reported meanwhile; a refusal comes to `refuse` of its reason;
 -- `then` goes on with what was reached. From outside, these rules take s, refuse and kept first:
@@ -194,16 +187,16 @@ module _ {K R : Type 0} (s : Setup) (refuse : Why → R) (kept : K) where
       U3 n (narrowed_of s.level h k d) then
 
   unfoldable pub updating : Option Came → (Bracket → Run K R) → Run K R
-  updating (some came) then = U3 s.options.budget came then
-  updating none then = end (refuse unreachable)
+  updating (Some came) then = U3 s.options.budget came then
+  updating None then = end (refuse unreachable)
 
   abbrev pub update : Bracket → Point → (Bracket → Run K R) → Run K R
   update w c then = updating (update_of s.level w c) then
 
   -- a further trial, if there is one, and the update with it
-  unfoldable pub further : Further → Bracket → (Bracket → Run K R) → Run K R
-  further Nothing u then = then u
-  further (At x) u then = trial x λ c. update u c then
+  unfoldable pub further : Option Float → Bracket → (Bracket → Run K R) → Run K R
+  further None u then = then u
+  further (Some x) u then = trial x λ c. update u c then
 
   -- L2 after S1 to S4 came to v
   unfoldable pub after_s4 : Bracket → Bracket → (Bracket → Run K R) → Run K R
@@ -233,13 +226,13 @@ module _ {K R : Type 0} (s : Setup) (refuse : Why → R) (kept : K) where
   ask_high max a then = asking max λ b. ask_start (bracket a b) then
 
   -- 02, request 3: a trial was enough, or what comes `otherwise`
-  unfoldable pub enough : Grown → (Bracket → Run K R) → Run K R → Run K R
-  enough (Enough came) then otherwise = U3 s.options.budget came then
-  enough TooShort then otherwise = otherwise
+  unfoldable pub enough : Option Came → (Bracket → Run K R) → Run K R → Run K R
+  enough (Some came) then otherwise = U3 s.options.budget came then
+  enough None then otherwise = otherwise
 
   -- after the trial t, while the step may grow n times more. "at most K times"; "11, before 5, if K growths are used
   -- up"
-  unfoldable pub growth : ℕ → Point → Grown → (Bracket → Run K R) → Run K R
+  unfoldable pub growth : ℕ → Point → Option Came → (Bracket → Run K R) → Run K R
   growth zero t grown then = enough grown then (end (refuse (growths_spent t.x)))
   growth (suc n) t grown then =
       enough grown then
@@ -272,9 +265,9 @@ iterations_in nothing_yet = 0
 iterations_in (last p) = p.iterations
 
 -- a verdict stops the search at the best step; with none it goes on
-unfoldable pub decided : Report → Float → Rest Report → Judged → Rest Report
-decided kept x go (Holds v) = end_with kept (stop (verdict_word v) x)
-decided kept x go Fails = go
+unfoldable pub decided : Report → Float → Rest Report → Option Verdict → Rest Report
+decided kept x go (Some v) = end_with kept (stop (verdict_word v) x)
+decided kept x go None = go
 
 -- "This c is always the start step, never a later trial", of either start: `start` is the point there, w the bracket, i
 -- the number of finished iterations

@@ -1,7 +1,7 @@
 -- 02, request 4, "Zero slope at an end": what it changes, and that it changes nothing else. 01's S2 to S4 stand here
 -- only, and no contract cites them. All else of the former search is specs/Rules.antt. Sums: specs/EndSums.antt.
 -- Proved: `zero-slope` (proofs/ZeroSlope.antt).
-use Rattle.std.specs.Prelude.{◌≡◌, true, false, cond, List, ◌∷◌, ◌++◌, ◌⊎◌, Float}
+use Rattle.std.specs.Prelude.{◌≡◌, true, false, cond, List, ◌∷◌, ◌++◌, ◌⊎◌, Float, Option, None, Some}
 use Rattle.std.proofs.Common.{inl, inr}
 use Rattle.std.specs.Float.Ieee.{is_nan}
 use Rattle.std.specs.Float.Ieee.Scale.{finite}
@@ -11,8 +11,6 @@ use Rattle.runs.specs.Asking.{end, Rest, Reply, respond, shown, reported, awaits
 use Rattle.hagerzhang_rules.specs.declared.Point.{Point}
 use Rattle.hagerzhang_rules.specs.declared.Bracket.{Bracket}
 use Rattle.hagerzhang_rules.specs.declared.Setup.{Setup}
-use Rattle.hagerzhang_rules.specs.declared.Further.{Further}
-use Rattle.hagerzhang_rules.specs.declared.Further.TheVariants.{Nothing, At}
 use Rattle.hagerzhang_rules.specs.Rules.{secant_of, is_near, when, or_else, equal_steps, Giving, S2, S3, S4, update}
 use Rattle.hagerzhang_rules.specs.Rules.{Report, nothing_yet, hager_zhang_by, hager_zhang}
 use Rattle.hagerzhang_rules.specs.Brackets.{Ordered}
@@ -37,20 +35,20 @@ formerly s = hager_zhang_by s former_s4
 -- ---- what it changes, at any numbers: w is (a, b), cx is c.x, and u is (A, Z)
 pub record Changes (w : Bracket) (cx : Float) (u : Bracket) : Type 0 where
   -- "S2 gives no e when b and Z have equal steps", and else what it gave
-  pub S2-silent : equal_steps w.b u.b ≡ true → S2 w cx u ≡ Nothing
+  pub S2-silent : equal_steps w.b u.b ≡ true → S2 w cx u ≡ None
   pub S2-stays : equal_steps w.b u.b ≡ false → S2 w cx u ≡ former_s2 w cx u
   -- "and S3 none when a and A have"
-  pub S3-silent : equal_steps w.a u.a ≡ true → S3 w cx u ≡ Nothing
+  pub S3-silent : equal_steps w.a u.a ≡ true → S3 w cx u ≡ None
   pub S3-stays : equal_steps w.a u.a ≡ false → S3 w cx u ≡ former_s3 w cx u
   -- "overwriting S2's". "An earlier e then stays."
-  pub overwrites : (e : Float) → S3 w cx u ≡ At e → S4 w cx u ≡ At e
-  pub earlier-stays : S3 w cx u ≡ Nothing → S4 w cx u ≡ S2 w cx u
+  pub overwrites : (e : Float) → S3 w cx u ≡ Some e → S4 w cx u ≡ Some e
+  pub earlier-stays : S3 w cx u ≡ None → S4 w cx u ≡ S2 w cx u
 
 -- ---- of one update: u is what an update of w comes to
 
-pub record GivesNan (e : Further) : Type 0 where
+pub record GivesNan (e : Option Float) : Type 0 where
   pub step : Float
-  pub given : e ≡ At step
+  pub given : e ≡ Some step
   pub not-a-number : is_nan step ≡ true
 
 pub record OfUpdate (w u : Bracket) : Type 0 where
@@ -72,9 +70,9 @@ update_alone s w c = update s inl nothing_yet w c (λ v. end (inr v))
 -- ---- of a whole search
 
 -- the former S4, with something else in place of an e that is not finite, which refusal 5 meets
-abbrev pub unless_five : Further → Further → Further
-unless_five Nothing instead = Nothing
-unless_five (At x) instead = cond (finite x) (At x) instead
+abbrev pub unless_five : Option Float → Option Float → Option Float
+unless_five None instead = None
+unless_five (Some x) instead = cond (finite x) (Some x) instead
 
 abbrev pub former_but : Giving → Giving
 former_but instead w cx u = unless_five (former_s4 w cx u) (instead w cx u)
@@ -82,7 +80,7 @@ former_but instead w cx u = unless_five (former_s4 w cx u) (instead w cx u)
 -- the former search with 1 in that place, so that it asks 1 where the former one is refused at S4's step. All else of
 -- the two is one text
 abbrev pub marked : Setup → Rest Report
-marked s = hager_zhang_by s (former_but (λ w cx u. At 1ᶠ))
+marked s = hager_zhang_by s (former_but (λ w cx u. Some 1ᶠ))
 
 -- two searches tell, report and await the same at these answers
 pub record Alike (r r' : Rest Report) (ys : List Reply) : Type 0 where

@@ -1,10 +1,8 @@
-// The words of Hager-Zhang's rules: points, brackets, parameters, and what a rule decides. No function stands here:
+// The words of Hager-Zhang's rules: points, brackets, parameters, and what an answer comes to. No function stands here:
 // specs/ is 01's text, proofs/ has the theorems about that text alone. hagerzhang_parameters has the tests of a start,
 // and hagerzhang_decisions decides each rule.
 
 #![tactic(auto)]
-
-use runs::Verdict;
 
 // 01: "EPS = 2^-52". S2 and S3 go by it, and it is the default of min.
 pub const EPS: f64 = 2.220446049250313e-16;
@@ -77,24 +75,4 @@ pub struct Setup {
 pub enum Came {
     To(Bracket),
     On(Point, f64),
-}
-
-// What the answer at a trial of a growing start comes to: a bracket or U3, or the step is too short.
-#[derive(Clone, Copy)]
-pub enum Grown {
-    Enough(Came),
-    TooShort,
-}
-
-// A further trial of an iteration, if there is one.
-#[derive(Clone, Copy)]
-pub enum Further {
-    Nothing,
-    At(f64),
-}
-
-#[derive(Clone, Copy)]
-pub enum Judged {
-    Holds(Verdict),
-    Fails,
 }

@@ -1,12 +1,10 @@
 -- The way of an answer in an iteration: what it comes to, and what follows. Bookkeeping.
-use Rattle.std.specs.Prelude.{ℕ, Float}
+use Rattle.std.specs.Prelude.{ℕ, Float, Option, None, Some}
 use Rattle.runs.specs.Counters.{one_more, iterations}
 use Rattle.hagerzhang_rules.specs.declared.Bracket.{Bracket}
 use Rattle.hagerzhang_rules.specs.declared.Setup.{Setup}
 use Rattle.hagerzhang_rules.specs.declared.Came.{Came}
 use Rattle.hagerzhang_rules.specs.declared.Came.TheVariants.{To, On}
-use Rattle.hagerzhang_rules.specs.declared.Further.{Further}
-use Rattle.hagerzhang_rules.specs.declared.Further.TheVariants.{Nothing, At}
 use Rattle.hagerzhang_steps.specs.declared.state.Finished.{Finished}
 use Rattle.hagerzhang_steps.specs.declared.state.Rule.{Rule}
 use Rattle.hagerzhang_steps.specs.declared.state.Rule.TheVariants.{S1 as ByS1, S4 as ByS4, L2 as ByL2}
@@ -29,9 +27,9 @@ unfoldable pub left_of : ℕ → Asked → ℕ
 left_of budget (Update w) = budget
 left_of budget (Between e) = e.left
 
-unfoldable pub tried_by : Bracket → Rule → Then → Further → Then
-tried_by u rule otherwise (At x) = Go (tries_of u rule x)
-tried_by u rule otherwise Nothing = otherwise
+unfoldable pub tried_by : Bracket → Rule → Then → Option Float → Then
+tried_by u rule otherwise (Some x) = Go (tries_of u rule x)
+tried_by u rule otherwise None = otherwise
 
 abbrev pub after_s4_of : Float → Bracket → Bracket → Then
 after_s4_of gamma w v = tried_by v ByL2 (Close v) (L2 gamma w v)

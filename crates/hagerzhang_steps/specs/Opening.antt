@@ -1,5 +1,5 @@
 -- The way of an answer in the start: 01's three answers, and a start that grows. Bookkeeping.
-use Rattle.std.specs.Prelude.{ℕ, ◌-◌, cond, eqb, Float}
+use Rattle.std.specs.Prelude.{ℕ, ◌-◌, cond, eqb, Float, Option, Some, None, Ok, Err}
 use Rattle.std.specs.Float.Ieee.Scale.{finite}
 use Rattle.refusals.specs.declared.Refusal.TheVariants.{StepNotFinite, GrowthsSpent}
 use Rattle.hagerzhang_rules.specs.declared.Point.{Point}
@@ -8,18 +8,17 @@ use Rattle.hagerzhang_rules.specs.declared.Way.TheVariants.{Bounded, Growing}
 use Rattle.hagerzhang_rules.specs.declared.Setup.{Setup}
 use Rattle.hagerzhang_rules.specs.declared.Came.{Came}
 use Rattle.hagerzhang_rules.specs.declared.Came.TheVariants.{To, On}
-use Rattle.hagerzhang_rules.specs.declared.Grown.{Grown}
-use Rattle.hagerzhang_rules.specs.declared.Grown.TheVariants.{Enough, TooShort}
+use Rattle.std.specs.Prelude as Rust
 use Rattle.hagerzhang_steps.specs.declared.state.Growth.{Growth}
 use Rattle.hagerzhang_steps.specs.declared.state.Opening.{Opening}
 use Rattle.hagerzhang_steps.specs.declared.state.Opening.TheVariants.{Low, High, StartStep, First, Later, Inside}
-use Rattle.hagerzhang_steps.specs.declared.moves.Probed.{Probed}
-use Rattle.hagerzhang_steps.specs.declared.moves.Probed.TheVariants.{Passes, Barred}
 use Rattle.hagerzhang_steps.specs.declared.opening.Opened.{Opened}
 use Rattle.hagerzhang_steps.specs.declared.opening.Opened.TheVariants.{More, Done, Not}
 use Rattle.hagerzhang_rules.specs.Rules.{point, bracket, narrowed_of, zero_of, grown_of, longer_of}
 use Rattle.hagerzhang_steps.specs.State.{growing}
 use Rattle.hagerzhang_steps.specs.Moves.{probe_of}
+use Rattle.hagerzhang_steps.specs.declared.state.Narrowing.{Narrowing}
+use Rattle.refusals.specs.declared.Refusal.{Refusal}
 
 -- what is asked first
 unfoldable pub first_by : Setup → Way → Opening
@@ -29,9 +28,9 @@ first_by s (Growing K) = First (growing (zero_of s) s.options.params.start K)
 abbrev pub first_of : Setup → Opening
 first_of s = first_by s s.options.way
 
-unfoldable pub inside_of : Point → Probed → Opened
-inside_of c (Passes e) = More (Inside e c) e.d
-inside_of c (Barred r) = Not r
+unfoldable pub inside_of : Point → Rust.Result Narrowing Refusal → Opened
+inside_of c (Ok e) = More (Inside e c) e.d
+inside_of c (Err r) = Not r
 
 unfoldable pub arrived_of : Float → Point → ℕ → Came → Opened
 arrived_of theta c left (To w) = Done w c
@@ -43,9 +42,9 @@ stretch_of c t left =
     cond (eqb left 0) (Not GrowthsSpent)
     (cond (finite x) (More (Later (growing t x (left - 1)) c) x) (Not StepNotFinite))
 
-unfoldable pub grew_by : Setup → Point → Point → ℕ → Grown → Opened
-grew_by s c t left (Enough came) = arrived_of s.options.params.theta c s.options.budget came
-grew_by s c t left TooShort = stretch_of c t left
+unfoldable pub grew_by : Setup → Point → Point → ℕ → Option Came → Opened
+grew_by s c t left (Some came) = arrived_of s.options.params.theta c s.options.budget came
+grew_by s c t left None = stretch_of c t left
 
 abbrev pub grew_of : Setup → Growth → Point → Point → Opened
 grew_of s w c t = grew_by s c t w.left (grown_of s.level (zero_of s) w.earlier t)

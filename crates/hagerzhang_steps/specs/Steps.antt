@@ -1,9 +1,8 @@
 -- What a finite answer leads to, in the start or in an iteration. Bookkeeping.
-use Rattle.std.specs.Prelude.{Float}
+use Rattle.std.specs.Prelude.{Float, None}
 use Rattle.runs.specs.declared.Outcome.TheVariants.{Refused}
 use Rattle.runs.specs.Counters.{iterations}
 use Rattle.hagerzhang_rules.specs.declared.Setup.{Setup}
-use Rattle.hagerzhang_steps.specs.declared.state.Kept.TheVariants.{NoneYet}
 use Rattle.hagerzhang_steps.specs.declared.state.Waiting.{Waiting}
 use Rattle.hagerzhang_steps.specs.declared.state.Waiting.TheVariants.{Starting, Running}
 use Rattle.hagerzhang_steps.specs.declared.state.Next.{Next}
@@ -18,7 +17,7 @@ use Rattle.hagerzhang_steps.specs.Opening.{opens_of}
 unfoldable pub starts_of : Setup → Opened → Next
 starts_of s (More w x) = asks_of (Starting w) x
 starts_of s (Done w c) = settled_of s w c (iterations 0)
-starts_of s (Not r) = ended_of NoneYet (Refused r)
+starts_of s (Not r) = ended_of None (Refused r)
 
 unfoldable pub react_of : Setup → Waiting → Float → Float → Next
 react_of s (Starting w) f g = starts_of s (opens_of s w f g)

@@ -4,7 +4,7 @@
 use mathlib.Core.Path.{◌≡◌, refl, sym, ap, subst}
 use mathlib.Core.Bool.{false, not}
 use mathlib.Core.List.{List}
-use mathlib.Core.Option.{Option, some, none}
+use Rattle.std.specs.Prelude.{Option, Some, None}
 use Prim.Native.Nat.{ℕ}
 use lib.Dec.{eqb}
 use lib.ListN.{length}
@@ -22,7 +22,7 @@ use Rattle.hagerzhang_rules.specs.Iterations.{f64s_by, F64s}
 use Rattle.hagerzhang_rules.proofs.Ranges.{Accepted}
 use Rattle.curves.specs.declared.Curve.{Curve}
 use Rattle.curves.specs.Curves.{has_number}
-use Rattle.hagerzhang.specs.declared.state.Turn.{Turn}
+use Rattle.hagerzhang.specs.Machine.{Turn}
 use Rattle.hagerzhang.specs.Machine.{fresh_of, start_of}
 use Rattle.jobs.specs.declared.Job.{Job}
 use Rattle.jobs.specs.Format.{options_of, decoded}
@@ -49,13 +49,13 @@ OfBounds (refused n) = Unit
 options-bounded : (ends start epsilon budget limit : Option (List ℕ))
     → IsBounded (options_of default_options ends start epsilon budget limit).way
 unfolding options_of
-options-bounded (some body) start epsilon budget limit = (_, refl)
-options-bounded none start epsilon budget limit = (_, refl)
+options-bounded (Some body) start epsilon budget limit = (_, refl)
+options-bounded None start epsilon budget limit = (_, refl)
 
 decoded-bounded : (curve : Option (List ℕ)) (o : Options) → IsBounded o.way → OfBounds (decoded curve o)
 unfolding decoded
-decoded-bounded (some body) o h = h
-decoded-bounded none o h = tt
+decoded-bounded (Some body) o h = h
+decoded-bounded None o h = tt
 
 reads-bounded : (bytes : List ℕ) → OfBounds (job_of bytes)
 reads-bounded s1 =

@@ -5,7 +5,8 @@
 use mathlib.Core.Path.{◌≡◌, refl, sym, ap, ap₂, ◌∙◌, subst}
 use mathlib.Core.Bool.{Bool, true, false, cond}
 use mathlib.Core.List.{List, [], ◌∷◌, ◌++◌}
-use mathlib.Core.Option.{Option, some, none, none-ne-some}
+use Rattle.std.specs.Prelude.{Option, Some, None}
+use Rattle.std.proofs.lemmas.Option.{none-some}
 use Prim.Native.Nat.{ℕ, suc, ◌+◌, ◌≤◌, ◌<◌}
 use native.Mathlib.Omega.{arith}
 use lib.Dec.{eqb}
@@ -32,7 +33,7 @@ module _ (f : Field) (s : List ℕ) where
       let n = length f.body in
       rw (head-written f s, eq-eqb f.tag f.tag refl, eq-eqb n n refl)
 
-  found-written : found f.tag (length f.body) (written f ++ s) ≡ some f.body
+  found-written : found f.tag (length f.body) (written f ++ s) ≡ Some f.body
   unfolding found
   found-written = rw (stands-written, body-written f s)
 
@@ -46,13 +47,13 @@ module _ (f : Field) (s : List ℕ) where
   not-stands k n h = rw (head-written f s, h)
 
 -- ---- fields with tags above t hold no body of a tag up to t
-pub absent : {t : ℕ} {fs : List Field} {s : List ℕ} → WellFormed t fs s → (m : ℕ) → m ≤ t → body_under m fs ≡ none
+pub absent : {t : ℕ} {fs : List Field} {s : List ℕ} → WellFormed t fs s → (m : ℕ) → m ≤ t → body_under m fs ≡ None
 unfolding body_under
 absent nothing m h = refl
 absent (field {f = f} above known more) m h =
     rw (ne_eqb f.tag m (λ (e : f.tag ≡ m). omega arith)) (absent more m (omega arith))
 
-pub same_size : (m k n l : ℕ) → m ≡ k → size_of m ≡ some l → size_of k ≡ some n → l ≡ n
+pub same_size : (m k n l : ℕ) → m ≡ k → size_of m ≡ Some l → size_of k ≡ Some n → l ≡ n
 same_size m k n l e p q = cc
 
 -- ---- one tag after the other: what the reader finds at the tag k is what the fields hold, and what is behind it holds
@@ -68,13 +69,13 @@ record Left (t : ℕ) (all : List Field) (s : List ℕ) : Type 0 where
   holds : WellFormed t fields s
   same : (m : ℕ) → t < m → body_under m fields ≡ body_under m all
 
-module _ (t k n : ℕ) (next : k ≡ suc t) (known : size_of k ≡ some n) where
+module _ (t k n : ℕ) (next : k ≡ suc t) (known : size_of k ≡ Some n) where
   at-end : Passed k n [] []
   unfolding behind found stands head_of body_under
   at-end = record { others = []; holds = nothing; body = refl; same = λ m h. refl }
 
   module _ (f : Field) (fs : List Field) (s : List ℕ) (above : t < f.tag)
-      (size : size_of f.tag ≡ some (length f.body)) (more : WellFormed f.tag fs s) where
+      (size : size_of f.tag ≡ Some (length f.body)) (more : WellFormed f.tag fs s) where
     this-tag : eqb f.tag k ≡ true → Passed k n (f ∷ fs) (written f ++ s)
     unfolding body_under
     this-tag e =
@@ -82,7 +83,7 @@ module _ (t k n : ℕ) (next : k ≡ suc t) (known : size_of k ≡ some n) where
         let q : length f.body ≡ n = same_size f.tag k n (length f.body) p size known in
         let b : behind k n (written f ++ s) ≡ s =
         ap₂ (λ (i j : ℕ). behind i j (written f ++ s)) (sym p) (sym q) ∙ behind-written f s in
-        let w : found k n (written f ++ s) ≡ some f.body =
+        let w : found k n (written f ++ s) ≡ Some f.body =
         ap₂ (λ (i j : ℕ). found i j (written f ++ s)) (sym p) (sym q) ∙ found-written f s in
         record {
           others = fs;
@@ -122,11 +123,11 @@ module _ (t k n : ℕ) (next : k ≡ suc t) (known : size_of k ≡ some n) where
       )
 
 -- there is no tag above 6
-unknown : (tag n : ℕ) → 6 < tag → size_of tag ≡ some n → ⊥
+unknown : (tag n : ℕ) → 6 < tag → size_of tag ≡ Some n → ⊥
 unfolding size_of
 unknown tag n h e =
     let far : (k : ℕ) → k ≤ 6 → eqb tag k ≡ false = λ k l. ne_eqb tag k (λ (g : tag ≡ k). omega arith) in
-    let z : none ≡ some n = rw (
+    let z : None ≡ Some n = rw (
       far 1 (omega arith),
       far 2 (omega arith),
       far 3 (omega arith),
@@ -134,7 +135,7 @@ unknown tag n h e =
       far 5 (omega arith),
       far 6 (omega arith),
     ) at e in
-    none-ne-some n z
+    none-some n z
 
 none_left : (fs : List Field) (s : List ℕ) → WellFormed 6 fs s → length s ≡ 0
 none_left [] [] nothing = refl
@@ -162,7 +163,7 @@ weaker : {k : ℕ} {fs : List Field} {s : List ℕ} (t : ℕ) → t ≤ k → We
 weaker t l nothing = nothing
 weaker t l (field {t = k} {f = f} above size more) = let a : t < f.tag = omega arith in field a size more
 
-back : (t k n : ℕ) → t < k → size_of k ≡ some n → n < 256 → (s : List ℕ) → Formed k (behind k n s) → Formed t s
+back : (t k n : ℕ) → t < k → size_of k ≡ Some n → n < 256 → (s : List ℕ) → Formed k (behind k n s) → Formed t s
 unfolding behind
 back t k n above known small s m = by-test (stands k n s) refl
   where
@@ -170,7 +171,7 @@ back t k n above known small s m = by-test (stands k n s) refl
     by-test true e =
         let h = its-head k n s e in
         let f : Field = record { tag = k; body = body_of s } in
-        let size : size_of k ≡ some (length (body_of s)) = known ∙ ap some (sym (body-length s k n h)) in
+        let size : size_of k ≡ Some (length (body_of s)) = known ∙ ap Some (sym (body-length s k n h)) in
         let rest : WellFormed k m.fields (drop (end_of s) s) = rw e at m.holds in
         let whole : WellFormed t (f ∷ m.fields) (written f ++ drop (end_of s) s) = field above size rest in
         record {
@@ -237,8 +238,8 @@ read-is-format s j e =
 value-or-nine : (b : Bool) (body : Option (List ℕ)) (o : Options)
     → ((j : Job) → cond b (decoded body o) (refused 9) ≡ value j → ⊥) → cond b (decoded body o) (refused 9) ≡ refused 9
 unfolding decoded
-value-or-nine true (some body) o never = absurd (never _ refl)
-value-or-nine true none o never = refl
+value-or-nine true (Some body) o never = absurd (never _ refl)
+value-or-nine true None o never = refl
 value-or-nine false body o never = refl
 
 pub refused-otherwise : (s : List ℕ) → ((j : Job) → Encodes s j → ⊥) → job_of s ≡ refused 9
@@ -255,8 +256,8 @@ no-job-refused s never = refused-otherwise s (λ j e. never e.fields j e.holds e
 no-decoding : (b : Bool) (body : Option (List ℕ)) (o p : Options) → cond b (decoded body o) (refused 9) ≡ refused 9
     → cond b (decoded body p) (refused 9) ≡ refused 9
 unfolding decoded
-no-decoding true (some body) o p e = absurd (refused-not-value 9 _ (sym e))
-no-decoding true none o p e = refl
+no-decoding true (Some body) o p e = absurd (refused-not-value 9 _ (sym e))
+no-decoding true None o p e = refl
 no-decoding false body o p e = refl
 
 pub no-job-by-any : (d e : Options) (s : List ℕ) → job_by d s ≡ refused 9 → job_by e s ≡ refused 9

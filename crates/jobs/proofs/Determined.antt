@@ -22,7 +22,7 @@ use Rattle.refusals.specs.declared.Refusal.TheVariants.{
 }
 use Rattle.refusals.proofs.Determined.{with_number, number-back}
 use Rattle.curves.specs.declared.Curve.{Curve}
-use Rattle.hagerzhang.specs.declared.state.Turn.{Turn}
+use Rattle.hagerzhang.specs.Machine.{Turn}
 use Rattle.jobs.specs.declared.Job.{Job}
 use Rattle.jobs.specs.declared.Reading.{Reading}
 use Rattle.jobs.specs.declared.Reading.TheVariants.{Whole, Malformed}

@@ -10,7 +10,7 @@ use Rattle.refusals.proofs.Refusals.{Passed, and, all, passed, refused-not-value
 use Rattle.hagerzhang_rules.specs.Parameters.{options_finite, range_rows}
 use Rattle.curves.specs.declared.Curve.{Curve}
 use Rattle.curves.specs.Curves.{has_number, numbered_at, curve_rows, numbered_of}
-use Rattle.hagerzhang.specs.declared.state.Turn.{Turn}
+use Rattle.hagerzhang.specs.Machine.{Turn}
 use Rattle.hagerzhang.specs.Machine.{fresh_of}
 use Rattle.jobs.specs.declared.Job.{Job}
 use Rattle.jobs.specs.Opening.{curve_of, f0_of, s0_of, setup_for, begun_by, over_curve}

@@ -1,7 +1,6 @@
 -- 01, "Sample curves and jobs": what a job is, and what it says. "A job is tagged fields": a `Field`, `written`, is
 -- defined in fields/specs/Fields.antt.
-use Rattle.std.specs.Prelude.{ℕ, ◌<◌, ◌≡◌, cond, List, [], ◌∷◌, ◌++◌, eqb, length, drop, Float}
-use Rattle.std.proofs.Math.Option.{Option, some, none}
+use Rattle.std.specs.Prelude.{ℕ, ◌<◌, ◌≡◌, cond, List, [], ◌∷◌, ◌++◌, eqb, length, drop, Float, Option, Some, None}
 use Rattle.refusals.specs.Results.{Result, value, refused}
 use Rattle.wire.specs.Wire.{byte_at, pair_of, float_of}
 use Rattle.fields.specs.Fields.{Field, written}
@@ -15,30 +14,30 @@ use Rattle.jobs.specs.declared.Job.{Job}
 -- body of each is
 unfoldable pub size_of : ℕ → Option ℕ
 size_of tag =
-    cond (eqb tag 1) (some 1)
-    (cond (eqb tag 2) (some 16)
-    (cond (eqb tag 3) (some 8)
-    (cond (eqb tag 4) (some 8)
-    (cond (eqb tag 5) (some 2)
-    (cond (eqb tag 6) (some 2)
-    none)))))
+    cond (eqb tag 1) (Some 1)
+    (cond (eqb tag 2) (Some 16)
+    (cond (eqb tag 3) (Some 8)
+    (cond (eqb tag 4) (Some 8)
+    (cond (eqb tag 5) (Some 2)
+    (cond (eqb tag 6) (Some 2)
+    None)))))
 
 -- "Tags ascend strictly; wrong length, unknown tag, cut field .. is refusal 9": the bytes are these whole fields, with
 -- tags above t
 pub data WellFormed : ℕ → List Field → List ℕ → Type 0 where
   nothing : {t : ℕ} → WellFormed t [] []
-  field : {t : ℕ} {f : Field} {fs : List Field} {s : List ℕ} → t < f.tag → size_of f.tag ≡ some (length f.body)
+  field : {t : ℕ} {f : Field} {fs : List Field} {s : List ℕ} → t < f.tag → size_of f.tag ≡ Some (length f.body)
       → WellFormed f.tag fs s → WellFormed t (f ∷ fs) (written f ++ s)
 
 -- the body of the field with a tag, where there is one
 unfoldable pub body_under : ℕ → List Field → Option (List ℕ)
-body_under tag [] = none
-body_under tag (f ∷ fs) = cond (eqb f.tag tag) (some f.body) (body_under tag fs)
+body_under tag [] = None
+body_under tag (f ∷ fs) = cond (eqb f.tag tag) (Some f.body) (body_under tag fs)
 
 -- what a body says, or what stands in for it
 abbrev pub said : {A : Type 0} → (List ℕ → A) → Option (List ℕ) → A → A
-said says none other = other
-said says (some body) other = says body
+said says None other = other
+said says (Some body) other = says body
 
 -- the float that starts so many bytes into a body
 abbrev pub float_in : ℕ → List ℕ → Float
@@ -58,8 +57,8 @@ options_of d ends start epsilon budget limit =
 
 -- with tag 1: "missing tag 1 is refusal 9"
 unfoldable pub decoded : Option (List ℕ) → Options → Result Job
-decoded none options = refused 9
-decoded (some body) options = value (record { curve = byte_at body 0; options = options })
+decoded None options = refused 9
+decoded (Some body) options = value (record { curve = byte_at body 0; options = options })
 
 -- what fields say where d are the defaults
 abbrev pub means_by : Options → List Field → Result Job

@@ -1,7 +1,6 @@
 -- How a job is read, for any bytes at all: in the order of the tags each field is there or not, and nothing may be
 -- left. That this reads 01's format, no less and no more, whatever the defaults are, is proved in proofs/BothWays.antt.
-use Rattle.std.specs.Prelude.{ℕ, ◌≡◌, Bool, false, cond, ◌&&◌, List, eqb, length, drop}
-use Rattle.std.proofs.Math.Option.{Option, some, none}
+use Rattle.std.specs.Prelude.{ℕ, ◌≡◌, Bool, false, cond, ◌&&◌, List, eqb, length, drop, Option, Some, None}
 use Rattle.refusals.specs.Results.{Result, value, refused}
 use Rattle.hagerzhang_rules.specs.declared.Options.{Options}
 use Rattle.hagerzhang_rules.specs.Parameters.{default_options}
@@ -23,7 +22,7 @@ stands tag n s = is_the_field tag n (head_of s)
 
 -- its body, and what is behind it
 unfoldable pub found : ℕ → ℕ → List ℕ → Option (List ℕ)
-found tag n s = cond (stands tag n s) (some (body_of s)) none
+found tag n s = cond (stands tag n s) (Some (body_of s)) None
 
 unfoldable pub behind : ℕ → ℕ → List ℕ → List ℕ
 behind tag n s = cond (stands tag n s) (drop (end_of s) s) s

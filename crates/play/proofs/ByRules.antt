@@ -24,7 +24,7 @@ use Rattle.curves.specs.Curves.{value_of, slope_of}
 use Rattle.hagerzhang_steps.specs.declared.state.Stage.{Stage}
 use Rattle.hagerzhang_steps.specs.declared.state.Stage.TheVariants.{Open, Over as OverStage}
 use Rattle.hagerzhang.specs.declared.state.Search.{Search}
-use Rattle.hagerzhang.specs.declared.state.Turn.{Turn}
+use Rattle.hagerzhang.specs.Machine.{Turn}
 use Rattle.hagerzhang.specs.Machine.{answer_by, answer_of}
 use Rattle.hagerzhang.specs.Meaning.{report, meaning, meant}
 use Rattle.hagerzhang.proofs.Answering.{setup-kept, one-more-if-finite, reports}

@@ -12,7 +12,7 @@ use Rattle.hagerzhang_rules.specs.declared.Setup.{Setup}
 use Rattle.hagerzhang_rules.specs.Rules.{Report, answer_finite}
 use Rattle.curves.specs.declared.Curve.{Curve}
 use Rattle.curves.specs.Curves.{value_of, slope_of}
-use Rattle.hagerzhang.specs.declared.state.Turn.{Turn}
+use Rattle.hagerzhang.specs.Machine.{Turn}
 use Rattle.hagerzhang.specs.Meaning.{meant}
 use Rattle.jobs.specs.Opening.{setup_for, begin_of}
 use Rattle.jobs.proofs.Begins.{begun}

@@ -23,7 +23,7 @@ use Rattle.hagerzhang_rules.specs.Iterations.{most_in_start, most_in_iteration, 
 use Rattle.hagerzhang_rules.proofs.Ranges.{Accepted, ever, level-finite, limit-fits, most-answers}
 use Rattle.hagerzhang_rules.proofs.EndsInTime.{search-within}
 use Rattle.curves.specs.declared.Curve.{Curve}
-use Rattle.hagerzhang.specs.declared.state.Turn.{Turn}
+use Rattle.hagerzhang.specs.Machine.{Turn}
 use Rattle.hagerzhang.specs.Machine.{fresh_of}
 use Rattle.hagerzhang.proofs.Bridge.{begins-whole, first-asked}
 use Rattle.lines.specs.Lines.{refused_line}

@@ -4,7 +4,7 @@ use mathlib.Core.List.{[], ◌∷◌}
 use Prim.Native.Nat.{ℕ, zero, suc, ◌-◌, ◌<◌, ◌≤◌}
 use native.Mathlib.Omega.{arith}
 use Rattle.curves.specs.declared.Curve.{Curve}
-use Rattle.hagerzhang.specs.declared.state.Turn.{Turn}
+use Rattle.hagerzhang.specs.Machine.{Turn}
 use Rattle.text.specs.Text.{Page, write}
 use Rattle.text.proofs.Writing.{nothing, then}
 use Rattle.play.specs.declared.Played.{Played}

@@ -3,7 +3,8 @@
 use mathlib.Core.Path.{◌≡◌, refl, sym, ap, ◌∙◌}
 use mathlib.Core.Bool.{Bool, true, false}
 use mathlib.Core.List.{List, [], ◌∷◌}
-use mathlib.Core.Option.{some, none-ne-some, some-injective}
+use Rattle.std.specs.Prelude.{Some}
+use Rattle.std.proofs.lemmas.Option.{none-some, same_Some}
 use Rattle.refusals.specs.Results.{ResultBy, value, refused, RowBy, refuse◌else◌}
 use Rattle.refusals.specs.Refusals.{given, refused_by}
 use Rattle.floats.proofs.Branches.{by_cases, by-cases₂}
@@ -15,17 +16,17 @@ module _ {K : Type 0} where
     later : {m : K} {c : Bool} {rows : List (RowBy K)} → c ≡ false → First k rows → First k ((m, c) ∷ rows)
 
   -- the condition gives what it tells
-  pub first-given : {k : K} {rows : List (RowBy K)} → First k rows → given rows ≡ some k
+  pub first-given : {k : K} {rows : List (RowBy K)} → First k rows → given rows ≡ Some k
   unfolding given
   first-given (this e c) = rw (c, e)
   first-given (later c f) = rw c (first-given f)
 
   -- and it is given only then
-  pub given-first : (k : K) (rows : List (RowBy K)) → given rows ≡ some k → First k rows
+  pub given-first : (k : K) (rows : List (RowBy K)) → given rows ≡ Some k → First k rows
   unfolding given
-  given-first k [] = λ e. absurd (none-ne-some k e)
+  given-first k [] = λ e. absurd (none-some k e)
   given-first k (r ∷ rows) =
-      by_cases (λ o. o ≡ some k → First k (r ∷ rows)) r.1 (λ t e. this (some-injective r.0 k e) t)
+      by_cases (λ o. o ≡ Some k → First k (r ∷ rows)) r.1 (λ t e. this (same_Some r.0 k e) t)
       (λ t e. later t (given-first k rows e))
 
   -- no row holds
@@ -43,7 +44,7 @@ module _ {K A : Type 0} where
       by-cases₂ (λ (q : ResultBy K A) o. refused_by q ≡ o) r.1 (λ t. refl) (λ t. by_rows rows a)
 
   pub refused-not-value : (k : K) (a : A) → refused k ≡ value a → ⊥
-  refused-not-value k a e = none-ne-some k (sym (ap refused_by e))
+  refused-not-value k a e = none-some k (sym (ap refused_by e))
 
   same-value : (a b : A) → ◌≡◌ {A = ResultBy K A} (value a) (value b) → a ≡ b
   same-value a b e = cc

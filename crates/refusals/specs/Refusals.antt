@@ -1,8 +1,7 @@
 -- 01's table "Numbers in, numbers refused", with what 02 adds: its numbers, its order, and what it means to be refused
 -- by it. The rows, with their "Given exactly when", are filled in by the crates that stand on this one.
-use Rattle.std.specs.Prelude.{ℕ, ◌≡◌, Bool, true, false, cond, List, [], ◌∷◌, map, eqb, Ok, Err}
+use Rattle.std.specs.Prelude.{ℕ, ◌≡◌, Bool, true, false, cond, List, [], ◌∷◌, map, eqb, Ok, Err, Option, Some, None}
 use Rattle.std.specs.Prelude as Rust
-use Rattle.std.proofs.Math.Option.{Option, none, some}
 use Rattle.refusals.specs.Results.{ResultBy, Result, value, refused, RowBy, Row}
 use Rattle.refusals.specs.declared.Refusal.{Refusal}
 use Rattle.refusals.specs.declared.Refusal.TheVariants.{
@@ -41,8 +40,8 @@ order = 8 ∷ 1 ∷ 9 ∷ 2 ∷ 3 ∷ 10 ∷ 4 ∷ 6 ∷ 11 ∷ 5 ∷ 7 ∷ []
 
 -- what the first row tells whose condition holds
 unfoldable pub given : {K : Type 0} → List (RowBy K) → Option K
-given [] = none
-given (r ∷ rows) = cond r.1 (some r.0) (given rows)
+given [] = None
+given (r ∷ rows) = cond r.1 (Some r.0) (given rows)
 
 -- whether numbers come in this order; several may be the same
 unfoldable pub is_in_order : List ℕ → List ℕ → Bool
@@ -62,5 +61,5 @@ Table = TableBy (λ n. n)
 
 -- what a result that is a refusal tells
 abbrev pub refused_by : {K A : Type 0} → ResultBy K A → Option K
-refused_by (value a) = none
-refused_by (refused k) = some k
+refused_by (value a) = None
+refused_by (refused k) = Some k

@@ -1,8 +1,7 @@
 -- 01, "What changes shape": "the search hands out a request and is given the answer .. One ask covers cost and slope."
 -- The rules of a search are written as a run: it asks for cost and slope at a step and goes on by the answer, until it
 -- has a result.
-use Rattle.std.specs.Prelude.{ℕ, ◌+◌, Bool, true, false, cond, not, ◌&&◌, List, [], ◌∷◌, Float}
-use Rattle.std.proofs.Math.Option.{Option, some, none}
+use Rattle.std.specs.Prelude.{ℕ, ◌+◌, Bool, true, false, cond, not, ◌&&◌, List, [], ◌∷◌, Float, Option, Some, None}
 use Rattle.refusals.specs.Results.{Result, value, refused}
 use Rattle.runs.specs.Outcomes.{Ending, refusal, Told, asks, ends, Why, answer_not_finite, already_over, numbered}
 
@@ -47,8 +46,8 @@ module _ {K : Type 0} where
 
   -- the step at which an answer is awaited
   unfoldable pub awaits : Rest K → Option Float
-  awaits (ask k x then) = some x
-  awaits (end o) = none
+  awaits (ask k x then) = Some x
+  awaits (end o) = None
 
   unfoldable pub is_over : Rest K → Bool
   is_over (ask k x then) = false

@@ -1,8 +1,7 @@
 -- 01, "What changes shape": "An outcome is an ask carrying its step, a stop with its verdict and step, a limit, or a
 -- refusal." Here as 01 tells it: the verdict by its word, a refusal by its number; and what each case of the code's
 -- outcome tells.
-use Rattle.std.specs.Prelude.{ℕ, Float}
-use Rattle.std.proofs.Math.Option.{Option, none, some}
+use Rattle.std.specs.Prelude.{ℕ, Float, Option, Some, None}
 use Rattle.runs.specs.declared.Verdict.{Verdict}
 use Rattle.runs.specs.declared.Verdict.TheVariants.{Met, Wolfe, Approximate}
 use Rattle.refusals.specs.Refusals.{number_of}
@@ -68,7 +67,7 @@ told (Refused k) = ends (refusal (number_of k))
 
 -- the number in what is told, where that is a refusal
 abbrev pub refusal_in : Told → Option ℕ
-refusal_in (asks x) = none
-refusal_in (ends (stop w x)) = none
-refusal_in (ends (limit x)) = none
-refusal_in (ends (refusal n)) = some n
+refusal_in (asks x) = None
+refusal_in (ends (stop w x)) = None
+refusal_in (ends (limit x)) = None
+refusal_in (ends (refusal n)) = Some n

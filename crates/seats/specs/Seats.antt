@@ -7,7 +7,7 @@ use Rattle.runs.specs.Asking.{Machine}
 use Rattle.backtracking.specs.declared.Turn.{Turn as TrialTurn}
 use Rattle.backtracking.specs.Machine.{answer_of as trial_of}
 use Rattle.backtracking.specs.Meaning.{is_over as trials_over}
-use Rattle.hagerzhang.specs.declared.state.Turn.{Turn}
+use Rattle.hagerzhang.specs.Machine.{Turn}
 use Rattle.hagerzhang.specs.Machine.{answer_of}
 use Rattle.hagerzhang.specs.Meaning.{is_over as hager_zhang_over}
 use Rattle.seats.specs.declared.Held.{Held}

@@ -4,7 +4,8 @@
 use mathlib.Core.Path.{◌≡◌, refl, ap}
 use mathlib.Core.Bool.{Bool, true, false}
 use mathlib.Core.List.{List, [], ◌∷◌, ◌++◌}
-use mathlib.Core.Option.{Option, some, none, none-ne-some}
+use Rattle.std.specs.Prelude.{Option, Some, None}
+use Rattle.std.proofs.lemmas.Option.{none-some}
 use Prim.Native.Nat.{ℕ, ◌<◌}
 use native.Mathlib.Omega.{arith}
 use lib.Dec.{eqb, ltb}
@@ -27,11 +28,11 @@ bounds_in fs = said (λ body. body) (body_under 2 fs) old_bounds.body
 
 pub record Placed (t : ℕ) (fs : List Field) : Type 0 where
   pub holds : WellFormed t (with_bounds fs) (bytes_of (with_bounds fs))
-  pub bounds : body_under 2 (with_bounds fs) ≡ some (bounds_in fs)
+  pub bounds : body_under 2 (with_bounds fs) ≡ Some (bounds_in fs)
   pub others : (k : ℕ) → eqb 2 k ≡ false → body_under k (with_bounds fs) ≡ body_under k fs
-  pub unmoved : (body : List ℕ) → body_under 2 fs ≡ some body → with_bounds fs ≡ fs
+  pub unmoved : (body : List ℕ) → body_under 2 fs ≡ Some body → with_bounds fs ≡ fs
 
-old-size : size_of 2 ≡ some (length old_bounds.body)
+old-size : size_of 2 ≡ Some (length old_bounds.body)
 unfolding size_of
 old-size = refl
 
@@ -42,11 +43,11 @@ module _ (t : ℕ) (low : t < 2) where
     holds = field low old-size nothing;
     bounds = refl;
     others = λ k far. rw far;
-    unmoved = λ body has. absurd (none-ne-some body has);
+    unmoved = λ body has. absurd (none-some body has);
   }
 
   module _ (f : Field) (fs : List Field) (s : List ℕ) (above : t < f.tag)
-      (size : size_of f.tag ≡ some (length f.body)) (more : WellFormed f.tag fs s) where
+      (size : size_of f.tag ≡ Some (length f.body)) (more : WellFormed f.tag fs s) where
     as-they-are : WellFormed f.tag fs (bytes_of fs)
     as-they-are = rw (← bytes-of more) more
 
@@ -85,7 +86,7 @@ module _ (t : ℕ) (low : t < 2) where
           holds = rw (l, e) (field low old-size (field beyond size as-they-are));
           bounds = rw (l, e, missing);
           others = λ k far. rw (l, e, far);
-          unmoved = λ body has. absurd (none-ne-some body (rw (e, missing) at has));
+          unmoved = λ body has. absurd (none-some body (rw (e, missing) at has));
         }
 
     by-tag : (l e : Bool) → ltb f.tag 2 ≡ l → eqb f.tag 2 ≡ e → (f.tag < 2 → Placed f.tag fs)
@@ -102,11 +103,11 @@ placed {t} (field {f = f} {fs = fs} {s = s} above size more) low =
 -- ---- what is said with the new defaults is what was said with the old ones
 module _ (start epsilon budget limit : Option (List ℕ)) where
   same-options : (bounds : Option (List ℕ))
-      → options_of default_options (some (said (λ body. body) bounds old_bounds.body)) start epsilon budget limit
+      → options_of default_options (Some (said (λ body. body) bounds old_bounds.body)) start epsilon budget limit
       ≡ options_of old_defaults bounds start epsilon budget limit
   unfolding options_of
-  same-options none = refl
-  same-options (some body) = refl
+  same-options None = refl
+  same-options (Some body) = refl
 
 pub says : (t : ℕ) (fs : List Field) → Placed t fs → means_of (with_bounds fs) ≡ means_by old_defaults fs
 says t fs p =

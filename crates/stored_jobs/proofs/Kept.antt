@@ -6,7 +6,7 @@
 use mathlib.Core.Path.{◌≡◌, refl, sym, ap, ap₂, ◌∙◌, subst}
 use mathlib.Core.Bool.{Bool, true, false, not, false≢true}
 use mathlib.Core.List.{List, [], ◌∷◌, ◌++◌, append_assoc}
-use mathlib.Core.Option.{some, none}
+use Rattle.std.specs.Prelude.{Some, None}
 use Prim.Native.Nat.{ℕ, ◌≤◌, ◌<◌}
 use native.Mathlib.Omega.{arith}
 use lib.Dec.{eqb}
@@ -90,7 +90,7 @@ single [] h = absurd (omega arith)
 single (x ∷ []) h = refl
 single (x ∷ y ∷ l) h = absurd (omega arith)
 
-without-curve : (o : Options) (j : Job) → decoded none o ≡ value j → ⊥
+without-curve : (o : Options) (j : Job) → decoded None o ≡ value j → ⊥
 unfolding decoded
 without-curve o j e = refused-not-value 9 j e
 
@@ -135,7 +135,7 @@ known s = by-reading (job_of s) refl
         no-job (jobs.refused-otherwise s never)
 
 -- a job with bounds stays
-pub bounds-stay : (s : List ℕ) (fs : List Field) (body : List ℕ) → WellFormed 0 fs s → body_under 2 fs ≡ some body
+pub bounds-stay : (s : List ℕ) (fs : List Field) (body : List ℕ) → WellFormed 0 fs s → body_under 2 fs ≡ Some body
     → kept_of s ≡ s
 bounds-stay s fs body holds has = by-known (known s)
   where

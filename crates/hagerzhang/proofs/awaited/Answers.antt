@@ -1,6 +1,6 @@
 -- `hagerzhang::awaited` meets its contract: the step at which the rules await an answer. Assumes nothing.
 use mathlib.Core.Path.{ap}
-use Rattle.hagerzhang.specs.declared.state.Due.TheVariants.{Awaited}
+use Rattle.std.specs.Prelude.{Some}
 use Rattle.hagerzhang.specs.Machine.{awaited_at}
 use Rattle.hagerzhang.proofs.Answering.{awaited-promised}
 use Rattle.hagerzhang.proofs.awaited.Goals as goal
@@ -9,7 +9,7 @@ pub returns-in-Open : goal.returns-in-Open
 unfolding awaited_at
 returns-in-Open c =
     awaited-promised c.args.s _
-    (rw c.in-Open.is (ap Awaited c.step_due.ensures))
+    (rw c.in-Open.is (ap Some c.step_due.ensures))
 
 pub returns-in-Over : goal.returns-in-Over
 unfolding awaited_at

@@ -6,7 +6,7 @@ use Rattle.hagerzhang_rules.specs.declared.Options.{Options}
 use Rattle.hagerzhang_rules.specs.Parameters.{setup_of, start_rows}
 use Rattle.curves.specs.declared.Curve.{Curve}
 use Rattle.curves.specs.Curves.{value_of, slope_of}
-use Rattle.hagerzhang.specs.declared.state.Started.{Started}
+use Rattle.hagerzhang.specs.Machine.{Started}
 use Rattle.hagerzhang.specs.Machine.{fresh_of, started_told, StartSaid}
 use Rattle.jobs.specs.Opening.{over_curve}
 use Rattle.jobs.proofs.Refusals.{on, on-rows}

@@ -2,7 +2,7 @@
 use mathlib.Core.Path.{refl, ap}
 use lib.Ieee.{ne}
 use Rattle.floats.proofs.Branches.{if_yes, if_no, and-by-call}
-use Rattle.hagerzhang_rules.specs.declared.Further.TheVariants.{At}
+use Rattle.std.specs.Prelude.{Some}
 use Rattle.hagerzhang_rules.specs.Rules.{S2}
 use Rattle.hagerzhang_decisions.proofs.bracketing.s2.Goals as goal
 
@@ -10,7 +10,7 @@ pub returns-then-is_near-w : goal.returns-then-is_near-w
 unfolding S2 ne
 returns-then-is_near-w c =
     if_yes _ _ _ _ (and-by-call _ _ _ _ c.is_near.ensures c.if-is_near-w.true)
-    (ap At c.secant.ensures)
+    (ap Some c.secant.ensures)
 
 pub returns : goal.returns
 unfolding S2 ne
