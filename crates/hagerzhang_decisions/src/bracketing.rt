@@ -1,11 +1,11 @@
 // 01's rules that move the bracket, each as a decision on points and floats: the update, the secant, S2 to S4 and L2
 // (argmin's hagerzhang.rs: update, secant, secant2). S2 and S3 are those of 02's request 4.
 
-ghost use Rattle.std.specs.Prelude.{◌≡◌};
-ghost use Rattle.hagerzhang_rules.specs.Rules.{middle_of, narrowed_of, secant_of, is_near, S2, S3, S4, or_else, L2};
+ghost use Rattle.std.specs.Prelude.{◌≡◌, ◌&&◌, not};
+ghost use Rattle.hagerzhang_rules.specs.Rules.{middle_of, narrowed_of, secant_of, is_near, equal_steps, when, S4, L2};
 ghost use Rattle.hagerzhang_decisions.specs.Decisions.{updated_of};
 
-use hagerzhang_rules::{Bracket, Came, EPS, Further, Point};
+use hagerzhang_rules::{Bracket, Came, EPS, Point};
 
 // 01, "Update of (a, b) with c". U0: "c.x <= a.x or c.x >= b.x: unchanged." U1: "c.g >= 0 (minus zero too): (a, c)."
 // U2: "c.g < 0, c.f <= L: (c, b)." U3: "c.g < 0, c.f > L: ends h = a, k = c.x", and goes on. That c.g < 0 and c.f > L
@@ -66,53 +66,34 @@ fn is_near(x: f64, y: f64) -> bool
 
 // ---- 01, "Iteration on (a, b)": w is (a, b), c is c.x, and u is (A, Z)
 
-// "S2: if |c.x - Z.x| < EPS, e = secant(b, Z)." 02, request 4: "no e when b and Z have equal steps".
-fn s2(w: Bracket, c: f64, u: Bracket) -> Further
-    ensures { result ≡ S2 w c u }
+// The secant of an end before the update and the end behind it, where c is near to the latter. 02, request 4: "no e
+// when b and Z have equal steps".
+fn near(c: f64, before: Point, behind: Point) -> Option<f64>
+    ensures { result ≡ when (is_near c behind.x && not (equal_steps before behind)) (secant_of before behind) }
 {
-    if is_near(c, u.b.x) & (w.b.x != u.b.x) {
-        return Further::At(secant(w.b, u.b));
+    if is_near(c, behind.x) & (before.x != behind.x) {
+        return Some(secant(before, behind));
     }
-    Further::Nothing
+    None
 }
 
-// "S3: if |c.x - A.x| < EPS, e = secant(a, A), overwriting S2's." 02, request 4: "none when a and A have".
-fn s3(w: Bracket, c: f64, u: Bracket) -> Further
-    ensures { result ≡ S3 w c u }
-{
-    if is_near(c, u.a.x) & (w.a.x != u.a.x) {
-        return Further::At(secant(w.a, u.a));
-    }
-    Further::Nothing
-}
-
-// e, where there is one; else d.
-fn or_else(e: Further, d: Further) -> Further
-    ensures { result ≡ or_else e d }
-{
-    match e {
-        Further::At(x) => Further::At(x),
-        Further::Nothing => d,
-    }
-}
-
-// "S4: if either held, ask e and update (A, Z) with it." The step e is S3's, which overwrites S2's; where S3 gives
-// none, "An earlier e then stays" (02, request 4).
-pub fn s4(w: Bracket, c: f64, u: Bracket) -> Further
+// "S4: if either held, ask e and update (A, Z) with it." "S2: if |c.x - Z.x| < EPS, e = secant(b, Z)"; "S3: if |c.x -
+// A.x| < EPS, e = secant(a, A), overwriting S2's"; where S3 gives none, "An earlier e then stays" (02, request 4).
+pub fn s4(w: Bracket, c: f64, u: Bracket) -> Option<f64>
     ensures { result ≡ S4 w c u }
 {
-    let third = s3(w, c, u);
-    let second = s2(w, c, u);
-    or_else(third, second)
+    let second = near(c, w.b, u.b);
+    let third = near(c, w.a, u.a);
+    third.or(second)
 }
 
 // "L2: if Z.x - A.x > gamma*(b.x - a.x), ask (A.x + Z.x)/2 and update."
 #[tactic(auto, unfolding(hagerzhang_rules::specs::Rules::L2))]
-pub fn l2(gamma: f64, w: Bracket, u: Bracket) -> Further
+pub fn l2(gamma: f64, w: Bracket, u: Bracket) -> Option<f64>
     ensures { result ≡ L2 gamma w u }
 {
     if u.b.x - u.a.x > gamma * (w.b.x - w.a.x) {
-        return Further::At((u.a.x + u.b.x) / 2.0);
+        return Some((u.a.x + u.b.x) / 2.0);
     }
-    Further::Nothing
+    None
 }

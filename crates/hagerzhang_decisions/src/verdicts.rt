@@ -3,7 +3,7 @@
 ghost use Rattle.std.specs.Prelude.{◌≡◌};
 ghost use Rattle.hagerzhang_rules.specs.Rules.{best_of, wolfe_holds, approximate_holds, judge_of};
 
-use hagerzhang_rules::{Judged, Point, Setup};
+use hagerzhang_rules::{Point, Setup};
 use runs::Verdict;
 
 // 01: "Best: if a.f <= b.f and a.f <= c.f take a; then b by the same test, overriding; then c, overriding." What comes
@@ -40,14 +40,14 @@ fn approximate_holds(s: Setup, p: Point) -> bool
 
 // 01: "Verdict, first that holds", of the best.
 #[tactic(auto, unfolding(hagerzhang_rules::specs::Rules::judge_of))]
-pub fn judge(s: Setup, p: Point) -> Judged
+pub fn judge(s: Setup, p: Point) -> Option<Verdict>
     ensures { result ≡ judge_of s p }
 {
     if wolfe_holds(s, p) {
-        return Judged::Holds(Verdict::Wolfe);
+        return Some(Verdict::Wolfe);
     }
     if approximate_holds(s, p) {
-        return Judged::Holds(Verdict::Approximate);
+        return Some(Verdict::Approximate);
     }
-    Judged::Fails
+    None
 }
