@@ -28,7 +28,7 @@ use Rattle.hagerzhang_steps.specs.declared.state.Stage.TheVariants.{Open, Over}
 use Rattle.hagerzhang.specs.declared.state.Search.{Search}
 use Rattle.hagerzhang.specs.Machine.{Turn}
 use Rattle.hagerzhang.specs.Machine.{awaited_of, answer_of, fresh_of}
-use Rattle.hagerzhang.specs.Meaning.{report, is_over, due_told, meaning, meant, Follows}
+use Rattle.hagerzhang.specs.Meaning.{report, is_over, meaning, meant, Follows}
 use Rattle.hagerzhang.proofs.Bridge.{follows, begins-whole}
 use Rattle.hagerzhang.proofs.Answering.{setup-kept, reports, awaited}
 use Rattle.demands.specs.Runs.{Gave, next, machine, reached_by, told_after, and_then}
@@ -86,13 +86,13 @@ module _ (o : Options) (f0 s0 : Float) (ok : Accepted o f0 s0) where
   holds : (c : Search) (r : Rest Report) → Stands tied c r → report c ≡ reported r
   holds c r w = sym (reports c.setup c.stage) ∙ machines.reports tied c r w
 
-  due : (c : Search) (r : Rest Report) → Stands tied c r → due_told (awaited_of c) ≡ awaits r
+  due : (c : Search) (r : Rest Report) → Stands tied c r → awaited_of c ≡ awaits r
   due c r w = sym (awaited c.setup c.stage) ∙ machines.awaiting tied c r w
 
   pub report-at : (ys : List Reply) → report (reached_by b ys) ≡ reported (after (hager_zhang s) ys)
   report-at ys = holds _ _ (stands_at tied ys)
 
-  pub awaited-at : (ys : List Reply) → due_told (awaited_of (reached_by b ys)) ≡ awaits (after (hager_zhang s) ys)
+  pub awaited-at : (ys : List Reply) → awaited_of (reached_by b ys) ≡ awaits (after (hager_zhang s) ys)
   awaited-at ys = due _ _ (stands_at tied ys)
 
   pub report-next : (ys : List Reply) (y : Reply)

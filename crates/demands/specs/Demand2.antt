@@ -26,7 +26,7 @@ use Rattle.jobs.specs.declared.Opened.TheVariants.{Begun}
 use Rattle.jobs.specs.Opening.{BeginSaid}
 use Rattle.hagerzhang.specs.declared.state.Search.{Search}
 use Rattle.hagerzhang.specs.Machine.{awaited_of, AnswerSaid}
-use Rattle.hagerzhang.specs.Meaning.{report, is_over, due_told, Starts, Follows}
+use Rattle.hagerzhang.specs.Meaning.{report, is_over, Starts, Follows}
 use Rattle.demands.specs.Runs.{Gave, reached_by, told_by}
 
 -- ---- a search t that `start` gave for the options o, and the cost f0 and slope s0 at step 0
@@ -45,7 +45,7 @@ module _ (o : Options) (f0 s0 : Float) (t : Turn) where
     pub outcomes-are-rules : (ys : List Reply) → told_by t.search ys ≡ outcomes rules ys
     -- "bracket, best step": what is held after any answers, or none yet; and the step at which it awaits the next
     pub report-is-rules : (ys : List Reply) → report (reached_by t.search ys) ≡ reported (after rules ys)
-    pub awaited-is-rules : (ys : List Reply) → due_told (awaited_of (reached_by t.search ys)) ≡ awaits (after rules ys)
+    pub awaited-is-rules : (ys : List Reply) → awaited_of (reached_by t.search ys) ≡ awaits (after rules ys)
     -- "The Rust's "unreachable point" error cannot occur here."
     pub never-unreachable : (ys : List Reply) (k : Report) → after rules ys ≡ end_with k (refusal unreachable) → ⊥
     -- every number that is ever reported is finite; so one of 01's three tests for the best held

@@ -11,7 +11,7 @@ use Rattle.hagerzhang_rules.specs.Iterations.{progress, F64s}
 use Rattle.hagerzhang.specs.declared.state.Search.{Search}
 use Rattle.hagerzhang.specs.Machine.{Turn}
 use Rattle.hagerzhang.specs.Machine.{start_of, awaited_of, answer_of}
-use Rattle.hagerzhang.specs.Meaning.{report, is_over, due_told}
+use Rattle.hagerzhang.specs.Meaning.{report, is_over}
 
 -- t is what `start` gave for the options o, and the cost f0 and slope s0 at step 0. Of a start that grows, f0 and the
 -- start step are f64s, as all that is handed to `start` is
@@ -53,7 +53,7 @@ note (Some x) y asked = point x y.0 y.1 ∷ asked
 note None y asked = asked
 
 abbrev pub note_by : Search → Reply → List Point → List Point
-note_by s y asked = note (due_told (awaited_of s)) y asked
+note_by s y asked = note (awaited_of s) y asked
 
 unfoldable pub asked_from : List Point → Search → List Reply → List Point
 asked_from asked s [] = asked

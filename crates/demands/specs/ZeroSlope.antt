@@ -11,14 +11,14 @@ use Rattle.hagerzhang_rules.specs.Rules.{hager_zhang}
 use Rattle.hagerzhang_rules.specs.ZeroSlope.{formerly, marked, Parts}
 use Rattle.hagerzhang.specs.Machine.{Turn}
 use Rattle.hagerzhang.specs.Machine.{awaited_of}
-use Rattle.hagerzhang.specs.Meaning.{report, due_told}
+use Rattle.hagerzhang.specs.Meaning.{report}
 use Rattle.demands.specs.Runs.{Gave, reached_by, told_by}
 
 -- at these answers the search t is the former one for the setup s
 pub record AsBefore (s : Setup) (t : Turn) (ys : List Reply) : Type 0 where
   pub tells : told_by t.search ys ≡ outcomes (formerly s) ys
   pub holds : report (reached_by t.search ys) ≡ reported (after (formerly s) ys)
-  pub expects : due_told (awaited_of (reached_by t.search ys)) ≡ awaits (after (formerly s) ys)
+  pub expects : awaited_of (reached_by t.search ys) ≡ awaits (after (formerly s) ys)
 
 pub record ZeroSlope : Type 0 where
   pub served-as-before : (o : Options) (f0 s0 : Float) (t : Turn) → Gave o f0 s0 t → (ys : List Reply)

@@ -45,7 +45,7 @@ use Rattle.hagerzhang_steps.specs.Opening.{inside_of, arrived_of, stretch_of, gr
 use Rattle.hagerzhang_steps.specs.Steps.{starts_of, react_of}
 use Rattle.hagerzhang.specs.Machine.{held_at, held_of, awaited_at, awaited_of, taken_of, answer_by}
 use Rattle.hagerzhang_steps.specs.Reports.{kept_report}
-use Rattle.hagerzhang.specs.Meaning.{due_told, OfTheStep, not-refused, six, eleven, five, seven}
+use Rattle.hagerzhang.specs.Meaning.{OfTheStep, not-refused, six, eleven, five, seven}
 use Rattle.hagerzhang.specs.Meaning.{meaning, meant}
 
 pub setup-kept : (b : Search) (f g : Float) (stage : Stage) → (answer_by b f g stage).search.setup ≡ b.setup
@@ -67,7 +67,7 @@ unfolding meaning reported held_at
 reports s (Open waiting) = refl
 reports s (Over kept) = refl
 
-pub awaited : (s : Setup) (stage : Stage) → awaits (meaning s stage) ≡ due_told (awaited_at s stage)
+pub awaited : (s : Setup) (stage : Stage) → awaits (meaning s stage) ≡ awaited_at s stage
 unfolding meaning awaits awaited_at
 awaited s (Open waiting) = refl
 awaited s (Over kept) = refl
@@ -78,8 +78,8 @@ pub held-promised : (s : Search) (r : Option Finished) → r ≡ held_of s
 held-promised s r e = record { exact = e; rules = ap kept_report e ∙ sym (reports s.setup s.stage) }
 
 pub awaited-promised : (s : Search) (r : Option Float) → r ≡ awaited_of s
-    → record { exact : r ≡ awaited_of s; rules : due_told r ≡ awaits (meant s) }
-awaited-promised s r e = record { exact = e; rules = ap due_told e ∙ sym (awaited s.setup s.stage) }
+    → record { exact : r ≡ awaited_of s; rules : r ≡ awaits (meant s) }
+awaited-promised s r e = record { exact = e; rules = e ∙ sym (awaited s.setup s.stage) }
 
 -- ---- what a finite answer to any state can come to
 -- what is told is an ask exactly while the search is not over
@@ -118,7 +118,7 @@ went-said s fin (Go m) = made-said s.options.params.theta fin m
 went-said s fin (Close u) = made-said s.options.params.theta _ _
 
 module _ (s : Setup) where
-  abbrev Starts-said : Opened → Type 0
+  abbrev Starts-said : Rust.Result Opened Refusal → Type 0
   Starts-said o = Says (starts_of s o)
 
   arrived-said : (c : Point) (left : ℕ) (came : Came) → Starts-said (arrived_of s.options.params.theta c left came)

@@ -2,16 +2,18 @@
 -- `answer_of`, `held_of`, `awaited_of`), and nobody needs to read how. specs/Meaning.antt says what a state stands for
 -- in 01's rules, proofs/Bridge.antt that every step is the rules' step, and demands/proofs/Along.antt the same for any
 -- list of answers.
-use Rattle.std.specs.Prelude.{◌≡◌, cond, Float, Option, None, Some, Ok, Err}
-use Rattle.refusals.specs.Results.{Result, value, refused, refuse◌else◌}
-use Rattle.refusals.specs.Refusals.{number_of}
+use Rattle.std.specs.Prelude.{◌≡◌, cond, Float, Option, None, Some}
+use Rattle.std.specs.Prelude as Rust
+use Rattle.refusals.specs.Results.{Result, refuse◌else◌}
+use Rattle.refusals.specs.declared.Refusal.{Refusal}
+use Rattle.refusals.specs.Refusals.{by_number}
+use Rattle.runs.specs.declared.Turn as Runs
 use Rattle.runs.specs.declared.Evaluations.{Evaluations}
 use Rattle.runs.specs.declared.Outcome.TheVariants.{Refused}
 use Rattle.refusals.specs.declared.Refusal.TheVariants.{SuppliedNotFinite, AlreadyOver}
 use Rattle.runs.specs.Counters.{one_more, evaluations}
 use Rattle.hagerzhang_rules.specs.declared.Options.{Options}
 use Rattle.hagerzhang_rules.specs.declared.Setup.{Setup}
-use Rattle.hagerzhang.specs.Machine.{Turn, Started}
 use Rattle.hagerzhang_steps.specs.declared.state.Trial.{Trial}
 use Rattle.hagerzhang_steps.specs.declared.state.Asked.{Asked}
 use Rattle.hagerzhang_steps.specs.declared.state.Asked.TheVariants.{Update, Between}
@@ -29,6 +31,13 @@ use Rattle.hagerzhang_steps.specs.State.{asks_of, ended_of}
 use Rattle.hagerzhang_steps.specs.Opening.{first_of}
 use Rattle.hagerzhang_steps.specs.Steps.{react_of}
 use Rattle.hagerzhang_steps.specs.declared.state.Finished.{Finished}
+
+-- what the code calls a `Turn`, and what a start gives
+abbrev pub Turn : Type 0
+Turn = Runs.Turn Search
+
+abbrev pub Started : Type 0
+Started = Rust.Result Turn Refusal
 
 -- the search with what an answer leads to
 abbrev pub turned_of : Setup → Evaluations → Next → Turn
@@ -94,14 +103,10 @@ fresh_of s =
 abbrev pub start_of : Options → Float → Float → Result Turn
 start_of o f0 s0 = refuse (start_rows o f0 s0) else fresh_of (setup_of o f0 s0)
 
-abbrev pub started_told : Started → Result Turn
-started_told (Ok r) = value r
-started_told (Err k) = refused (number_of k)
-
 -- ---- what the contracts say of a result
 
 abbrev pub StartSaid : Options → Float → Float → Started → Type 0
-StartSaid o f0 s0 r = started_told r ≡ start_of o f0 s0
+StartSaid o f0 s0 r = by_number r ≡ start_of o f0 s0
 
 abbrev pub AnswerSaid : Search → Float → Float → Turn → Type 0
 AnswerSaid s f g r = r ≡ answer_of s f g

@@ -59,11 +59,6 @@ abbrev pub is_over : Stage → Bool
 is_over (Open waiting) = false
 is_over (Over kept) = true
 
--- the step at which an answer is awaited
-abbrev pub due_told : Option Float → Option Float
-due_told (Some x) = Some x
-due_told None = None
-
 -- no refusal, or one of the step that would be next
 pub data OfTheStep : Option ℕ → Type 0 where
   not-refused : OfTheStep None

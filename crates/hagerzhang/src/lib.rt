@@ -19,7 +19,7 @@ ghost use Rattle.hagerzhang.specs.Machine.{
   taken_of,
 };
 ghost use Rattle.hagerzhang_steps.specs.Reports.{kept_report};
-ghost use Rattle.hagerzhang.specs.Meaning.{due_told, meant, Starts, Follows};
+ghost use Rattle.hagerzhang.specs.Meaning.{meant, Starts, Follows};
 
 use crate::state::turned;
 use hagerzhang_rules::{Options, Setup};
@@ -30,33 +30,32 @@ use runs::{Evaluations, Outcome};
 mod state; // the search, and its builder
 
 pub use hagerzhang_steps::{
-    Asked, Finished, Growth, Kept, Narrowing, Opening, Rule, Stage, Trial, Waiting,
+    Asked, Finished, Growth, Narrowing, Opening, Rule, Stage, Trial, Waiting, iterations,
 };
-pub use state::{Due, Search, Started, Turn};
+pub use state::{Search, Turn};
 
 // ---- a start
 
 // A search that asks its first step, for cost f0 and slope s0 at step 0; or why there is none.
-pub fn start(o: Options, f0: f64, s0: f64) -> Started
+pub fn start(o: Options, f0: f64, s0: f64) -> Result<Turn, Refusal>
     ensures exact { StartSaid o f0 s0 result }
     ensures rules { Starts o f0 s0 result }
 {
     if !hagerzhang_parameters::supplied_finite(o, f0, s0) {
-        return Started::NoSearch(Refusal::SuppliedNotFinite);
+        return Err(Refusal::SuppliedNotFinite);
     }
     if !hagerzhang_parameters::in_ranges(o) {
-        return Started::NoSearch(Refusal::OutOfRange);
+        return Err(Refusal::OutOfRange);
     }
-    let way = o.way;
-    if hagerzhang_parameters::not_downhill(way, s0) {
-        return Started::NoSearch(Refusal::NotDownhill);
+    if hagerzhang_parameters::not_downhill(o.way, s0) {
+        return Err(Refusal::NotDownhill);
     }
     let epsilon_k = o.params.epsilon * numbers::abs(f0);
     let level = f0 + epsilon_k;
     if !numbers::both_finite(epsilon_k, level) {
-        return Started::NoSearch(Refusal::ResultNotFinite);
+        return Err(Refusal::ResultNotFinite);
     }
-    Started::Began(fresh(Setup {
+    Ok(fresh(Setup {
         options: o,
         f0,
         s0,
@@ -83,8 +82,7 @@ pub fn answer(s: Search, f: f64, g: f64) -> Turn
     ensures exact { AnswerSaid s f g result }
     ensures rules { is_nan s.setup.level ≡ false → Follows s f g result }
 {
-    let stage = s.stage;
-    match stage {
+    match s.stage {
         Stage::Open(waiting) => taken(s.setup, s.evaluations, waiting, f, g),
         Stage::Over(_) => Turn {
             search: s,
@@ -109,26 +107,24 @@ fn taken(s: Setup, n: Evaluations, waiting: Waiting, f: f64, g: f64) -> Turn
 // ---- what a search holds
 
 // Bracket, best and iterations of the last finished iteration, or of the start; none yet during the start.
-pub fn held(s: Search) -> Kept
+pub fn held(s: Search) -> Option<Finished>
     ensures exact { result ≡ held_of s }
     ensures rules { kept_report result ≡ reported (meant s) }
 {
-    let stage = s.stage;
-    match stage {
+    match s.stage {
         Stage::Open(waiting) => keeps(waiting),
         Stage::Over(kept) => kept,
     }
 }
 
-// The step at which an answer is awaited.
-pub fn awaited(s: Search) -> Due
+// The step at which an answer is awaited, if there is one.
+pub fn awaited(s: Search) -> Option<f64>
     ensures exact { result ≡ awaited_of s }
-    ensures rules { due_told result ≡ awaits (meant s) }
+    ensures rules { result ≡ awaits (meant s) }
 {
-    let stage = s.stage;
-    match stage {
-        Stage::Open(waiting) => Due::Awaited(step_due(s.setup, waiting)),
-        Stage::Over(_) => Due::NothingDue,
+    match s.stage {
+        Stage::Open(waiting) => Some(step_due(s.setup, waiting)),
+        Stage::Over(_) => None,
     }
 }
 
@@ -168,11 +164,11 @@ fn step_asked(t: Trial, asked: Asked) -> f64
 
 // What is kept while an answer is awaited.
 #[tactic(auto, unfolding(crate::specs::Machine::keeps_of))]
-fn keeps(waiting: Waiting) -> Kept
+fn keeps(waiting: Waiting) -> Option<Finished>
     ensures { result ≡ keeps_of waiting }
 {
     match waiting {
-        Waiting::Starting(_) => Kept::NoneYet,
-        Waiting::Running(_, last, _) => Kept::Last(last),
+        Waiting::Starting(_) => None,
+        Waiting::Running(_, last, _) => Some(last),
     }
 }

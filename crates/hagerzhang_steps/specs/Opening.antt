@@ -13,7 +13,7 @@ use Rattle.hagerzhang_steps.specs.declared.state.Growth.{Growth}
 use Rattle.hagerzhang_steps.specs.declared.state.Opening.{Opening}
 use Rattle.hagerzhang_steps.specs.declared.state.Opening.TheVariants.{Low, High, StartStep, First, Later, Inside}
 use Rattle.hagerzhang_steps.specs.declared.opening.Opened.{Opened}
-use Rattle.hagerzhang_steps.specs.declared.opening.Opened.TheVariants.{More, Done, Not}
+use Rattle.hagerzhang_steps.specs.declared.opening.Opened.TheVariants.{More, Done}
 use Rattle.hagerzhang_rules.specs.Rules.{point, bracket, narrowed_of, zero_of, grown_of, longer_of}
 use Rattle.hagerzhang_steps.specs.State.{growing}
 use Rattle.hagerzhang_steps.specs.Moves.{probe_of}
@@ -28,32 +28,32 @@ first_by s (Growing K) = First (growing (zero_of s) s.options.params.start K)
 abbrev pub first_of : Setup → Opening
 first_of s = first_by s s.options.way
 
-unfoldable pub inside_of : Point → Rust.Result Narrowing Refusal → Opened
-inside_of c (Ok e) = More (Inside e c) e.d
-inside_of c (Err r) = Not r
+unfoldable pub inside_of : Point → Rust.Result Narrowing Refusal → Rust.Result Opened Refusal
+inside_of c (Ok e) = Ok (More (Inside e c) e.d)
+inside_of c (Err r) = Err r
 
-unfoldable pub arrived_of : Float → Point → ℕ → Came → Opened
-arrived_of theta c left (To w) = Done w c
+unfoldable pub arrived_of : Float → Point → ℕ → Came → Rust.Result Opened Refusal
+arrived_of theta c left (To w) = Ok (Done w c)
 arrived_of theta c left (On h k) = inside_of c (probe_of theta h k left)
 
-unfoldable pub stretch_of : Point → Point → ℕ → Opened
+unfoldable pub stretch_of : Point → Point → ℕ → Rust.Result Opened Refusal
 stretch_of c t left =
     let x = longer_of t in
-    cond (eqb left 0) (Not GrowthsSpent)
-    (cond (finite x) (More (Later (growing t x (left - 1)) c) x) (Not StepNotFinite))
+    cond (eqb left 0) (Err GrowthsSpent)
+    (cond (finite x) (Ok (More (Later (growing t x (left - 1)) c) x)) (Err StepNotFinite))
 
-unfoldable pub grew_by : Setup → Point → Point → ℕ → Option Came → Opened
+unfoldable pub grew_by : Setup → Point → Point → ℕ → Option Came → Rust.Result Opened Refusal
 grew_by s c t left (Some came) = arrived_of s.options.params.theta c s.options.budget came
 grew_by s c t left None = stretch_of c t left
 
-abbrev pub grew_of : Setup → Growth → Point → Point → Opened
+abbrev pub grew_of : Setup → Growth → Point → Point → Rust.Result Opened Refusal
 grew_of s w c t = grew_by s c t w.left (grown_of s.level (zero_of s) w.earlier t)
 
 -- what an answer in the start leads to
-unfoldable pub opens_of : Setup → Opening → Float → Float → Opened
-opens_of s (Low e) f g = More (High (point e.min f g) e.max) e.max
-opens_of s (High a x) f g = More (StartStep (bracket a (point x f g))) s.options.params.start
-opens_of s (StartStep w) f g = Done w (point s.options.params.start f g)
+unfoldable pub opens_of : Setup → Opening → Float → Float → Rust.Result Opened Refusal
+opens_of s (Low e) f g = Ok (More (High (point e.min f g) e.max) e.max)
+opens_of s (High a x) f g = Ok (More (StartStep (bracket a (point x f g))) s.options.params.start)
+opens_of s (StartStep w) f g = Ok (Done w (point s.options.params.start f g))
 opens_of s (First w) f g = grew_of s w (point w.x f g) (point w.x f g)
 opens_of s (Later w c) f g = grew_of s w c (point w.x f g)
 opens_of s (Inside e c) f g =

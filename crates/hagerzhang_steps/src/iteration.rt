@@ -15,7 +15,7 @@ use crate::moves;
 use crate::moves::Move;
 use crate::state::{Asked, Finished, Next, Rule, Trial};
 use hagerzhang_decisions::bracketing;
-use hagerzhang_rules::{Bracket, Came, Further, Point, Setup};
+use hagerzhang_rules::{Bracket, Came, Point, Setup};
 
 // What follows in the iteration: a move, or its end with a bracket.
 #[derive(Clone, Copy)]
@@ -93,8 +93,8 @@ fn after_s1(gamma: f64, w: Bracket, c: f64, u: Bracket) -> Then
     ensures { result ≡ after_s1_of gamma w c u }
 {
     match bracketing::s4(w, c, u) {
-        Further::At(x) => Then::Go(moves::tries(u, Rule::S4, x)),
-        Further::Nothing => after_s4(gamma, w, u),
+        Some(x) => Then::Go(moves::tries(u, Rule::S4, x)),
+        None => after_s4(gamma, w, u),
     }
 }
 
@@ -104,7 +104,7 @@ fn after_s4(gamma: f64, w: Bracket, v: Bracket) -> Then
     ensures { result ≡ after_s4_of gamma w v }
 {
     match bracketing::l2(gamma, w, v) {
-        Further::At(x) => Then::Go(moves::tries(v, Rule::L2, x)),
-        Further::Nothing => Then::Close(v),
+        Some(x) => Then::Go(moves::tries(v, Rule::L2, x)),
+        None => Then::Close(v),
     }
 }

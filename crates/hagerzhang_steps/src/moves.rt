@@ -13,9 +13,9 @@ ghost use Rattle.hagerzhang_steps.specs.Moves.{
   refused_of,
 };
 
-use crate::state::{Asked, Finished, Kept, Narrowing, Next, Rule, Trial, Waiting, asks, ended};
+use crate::state::{Asked, Finished, Narrowing, Next, Rule, Trial, Waiting, asks, ended};
 use hagerzhang_decisions::{bracketing, verdicts};
-use hagerzhang_rules::{Bracket, Judged, Point, Setup};
+use hagerzhang_rules::{Bracket, Point, Setup};
 use refusals::Refusal;
 use runs::{Iterations, Outcome, Verdict};
 
@@ -50,8 +50,8 @@ fn outlook(s: Setup, last: Finished) -> Move
 {
     let w = last.bracket;
     match verdicts::judge(s, last.best) {
-        Judged::Holds(v) => Move::ByVerdict(v),
-        Judged::Fails => {
+        Some(v) => Move::ByVerdict(v),
+        None => {
             if s.options.limit <= last.iterations.0 {
                 return Move::ByLimit;
             }
@@ -104,35 +104,28 @@ fn narrow(theta: f64, t: Trial, h: Point, k: f64, left: u32) -> Tested
     ensures { result ≡ narrow_of theta t h k left }
 {
     match probe(theta, h, k, left) {
-        Probed::Passes(e) => Tested::Narrows(t, e),
-        Probed::Barred(r) => refused(r),
+        Ok(e) => Tested::Narrows(t, e),
+        Err(r) => refused(r),
     }
-}
-
-// What the test of U3's next step comes to.
-#[derive(Clone, Copy)]
-pub enum Probed {
-    Passes(Narrowing),
-    Barred(Refusal),
 }
 
 // U3's next step is asked where an answer may still come (6) and it is finite (5) and strictly between the ends (7).
 #[tactic(auto, unfolding(crate::specs::Moves::probe_of))]
-pub(crate) fn probe(theta: f64, h: Point, k: f64, left: u32) -> Probed
+pub(crate) fn probe(theta: f64, h: Point, k: f64, left: u32) -> Result<Narrowing, Refusal>
     ensures { result ≡ probe_of theta h k left }
 {
     if left == 0 {
-        return Probed::Barred(Refusal::BudgetSpent);
+        return Err(Refusal::BudgetSpent);
     }
     let d = bracketing::middle(theta, h, k);
     if !numbers::is_finite(d) {
-        return Probed::Barred(Refusal::StepNotFinite);
+        return Err(Refusal::StepNotFinite);
     }
     if (h.x < d) & (d < k) {
         let left = left - 1;
-        return Probed::Passes(Narrowing { h, k, d, left });
+        return Ok(Narrowing { h, k, d, left });
     }
-    Probed::Barred(Refusal::StepNotBetween)
+    Err(Refusal::StepNotBetween)
 }
 
 fn refused(r: Refusal) -> Tested
@@ -149,6 +142,6 @@ pub(crate) fn made(theta: f64, last: Finished, m: Move) -> Next
     match test(theta, last.best.x, m) {
         Tested::Asks(u, t) => asks(Waiting::Running(t, last, Asked::Update(u)), t.x),
         Tested::Narrows(t, e) => asks(Waiting::Running(t, last, Asked::Between(e)), e.d),
-        Tested::Stops(outcome) => ended(Kept::Last(last), outcome),
+        Tested::Stops(outcome) => ended(Some(last), outcome),
     }
 }

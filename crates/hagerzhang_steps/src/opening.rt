@@ -2,22 +2,20 @@
 
 ghost use Rattle.std.specs.Prelude.{◌≡◌};
 ghost use Rattle.hagerzhang_rules.specs.Rules.{zero_of};
-ghost use Rattle.hagerzhang_steps.specs.Opening.{first_of, opens_of, grew_of, stretch_of, arrived_of, inside_of};
+ghost use Rattle.hagerzhang_steps.specs.Opening.{first_of, opens_of, grew_of, stretch_of, arrived_of};
 
 use crate::moves;
-use crate::moves::Probed;
 use crate::state::{Growth, Opening};
 use hagerzhang_decisions::{bracketing, growing};
-use hagerzhang_rules::{Bracket, Came, Grown, Point, Setup, Way};
+use hagerzhang_rules::{Bracket, Came, Point, Setup, Way};
 use refusals::Refusal;
 
-// What an answer in the start leads to: the next step, the bracket and c with which the start is finished, or a
-// refusal.
+// What an answer in the start leads to, where it is not refused: the next step, or the bracket and c with which the
+// start is finished.
 #[derive(Clone, Copy)]
 pub enum Opened {
     More(Opening, f64),
     Done(Bracket, Point),
-    Not(Refusal),
 }
 
 // "the low end is step 0 with f0 and s0".
@@ -50,17 +48,20 @@ pub fn first(s: Setup) -> Opening
 
 // A finite answer in the start.
 #[tactic(auto, unfolding(crate::specs::Opening::opens_of))]
-pub(crate) fn opens(s: Setup, w: Opening, f: f64, g: f64) -> Opened
+pub(crate) fn opens(s: Setup, w: Opening, f: f64, g: f64) -> Result<Opened, Refusal>
     ensures { result ≡ opens_of s w f g }
 {
     let c = s.options.params.start;
     match w {
-        Opening::Low(e) => Opened::More(Opening::High(Point { x: e.min, f, g }, e.max), e.max),
+        Opening::Low(e) => {
+            let a = Point { x: e.min, f, g };
+            Ok(Opened::More(Opening::High(a, e.max), e.max))
+        }
         Opening::High(a, x) => {
             let b = Point { x, f, g };
-            Opened::More(Opening::StartStep(Bracket { a, b }), c)
+            Ok(Opened::More(Opening::StartStep(Bracket { a, b }), c))
         }
-        Opening::StartStep(w) => Opened::Done(w, Point { x: c, f, g }),
+        Opening::StartStep(w) => Ok(Opened::Done(w, Point { x: c, f, g })),
         Opening::First(w) => {
             let t = Point { x: w.x, f, g };
             grew(s, w, t, t)
@@ -77,59 +78,46 @@ pub(crate) fn opens(s: Setup, w: Opening, f: f64, g: f64) -> Opened
 
 // The trial t is answered. "The best's c is the first trial."
 #[tactic(auto, unfolding(crate::specs::Opening::grew_by))]
-fn grew(s: Setup, w: Growth, c: Point, t: Point) -> Opened
+fn grew(s: Setup, w: Growth, c: Point, t: Point) -> Result<Opened, Refusal>
     ensures { result ≡ grew_of s w c t }
 {
     match growing::grown(s.level, zero(s), w.earlier, t) {
-        Grown::Enough(came) => arrived(s.options.params.theta, c, s.options.budget, came),
-        Grown::TooShort => stretch(c, t, w.left),
+        Some(came) => arrived(s.options.params.theta, c, s.options.budget, came),
+        None => stretch(c, t, w.left),
     }
 }
 
 // A longer step is asked where it may still grow (11) and the step is finite (5).
 #[tactic(auto, unfolding(crate::specs::Opening::stretch_of))]
-fn stretch(c: Point, t: Point, left: u32) -> Opened
+fn stretch(c: Point, t: Point, left: u32) -> Result<Opened, Refusal>
     ensures { result ≡ stretch_of c t left }
 {
     if left == 0 {
-        return Opened::Not(Refusal::GrowthsSpent);
+        return Err(Refusal::GrowthsSpent);
     }
     let x = growing::longer(t);
     if !numbers::is_finite(x) {
-        return Opened::Not(Refusal::StepNotFinite);
+        return Err(Refusal::StepNotFinite);
     }
     let left = left - 1;
-    Opened::More(
-        Opening::Later(
-            Growth {
-                earlier: t,
-                x,
-                left,
-            },
-            c,
-        ),
+    let longer = Growth {
+        earlier: t,
         x,
-    )
+        left,
+    };
+    Ok(Opened::More(Opening::Later(longer, c), x))
 }
 
-// A bracket is come to, or U3 goes on while `left` answers may come.
-#[tactic(auto, unfolding(crate::specs::Opening::arrived_of))]
-fn arrived(theta: f64, c: Point, left: u32, came: Came) -> Opened
+// A bracket is come to, or U3 goes on while `left` answers may come, and its next step is asked where it passes.
+#[tactic(auto, unfolding(crate::specs::Opening::arrived_of, crate::specs::Opening::inside_of))]
+fn arrived(theta: f64, c: Point, left: u32, came: Came) -> Result<Opened, Refusal>
     ensures { result ≡ arrived_of theta c left came }
 {
     match came {
-        Came::To(w) => Opened::Done(w, c),
-        Came::On(h, k) => inside(c, moves::probe(theta, h, k, left)),
-    }
-}
-
-// U3's next step is asked, where it passes.
-#[tactic(auto, unfolding(crate::specs::Opening::inside_of))]
-fn inside(c: Point, p: Probed) -> Opened
-    ensures { result ≡ inside_of c p }
-{
-    match p {
-        Probed::Passes(e) => Opened::More(Opening::Inside(e, c), e.d),
-        Probed::Barred(r) => Opened::Not(r),
+        Came::To(w) => Ok(Opened::Done(w, c)),
+        Came::On(h, k) => {
+            let e = moves::probe(theta, h, k, left)?;
+            Ok(Opened::More(Opening::Inside(e, c), e.d))
+        }
     }
 }

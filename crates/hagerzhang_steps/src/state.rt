@@ -18,24 +18,12 @@ pub struct Finished {
     pub iterations: Iterations,
 }
 
-// What a search that is over keeps. During the start there is no bracket and no best.
-#[derive(Clone, Copy)]
-pub enum Kept {
-    NoneYet,
-    Last(Finished),
-}
-
-impl Kept {
-    // The finished iterations.
-    #[tactic(auto, unfolding(crate::specs::Reports::kept_report))]
-    pub fn iterations(self) -> Iterations
-        ensures { result ≡ iterations (iterations_in (kept_report self)) }
-    {
-        match self {
-            Kept::NoneYet => Iterations(0),
-            Kept::Last(last) => last.iterations,
-        }
-    }
+// The finished iterations, of what is kept. During the start nothing is finished.
+#[tactic(auto, unfolding(crate::specs::Reports::kept_report))]
+pub fn iterations(kept: Option<Finished>) -> Iterations
+    ensures { result ≡ iterations (iterations_in (kept_report kept)) }
+{
+    kept.map_or(Iterations(0), |last| last.iterations)
 }
 
 // The rule of 01 by which a trial is asked.
@@ -97,10 +85,11 @@ pub enum Waiting {
     Running(Trial, Finished, Asked),
 }
 
+// A search waits, or it is over and keeps what the last finished iteration left, if there is one.
 #[derive(Clone, Copy)]
 pub enum Stage {
     Open(Waiting),
-    Over(Kept),
+    Over(Option<Finished>),
 }
 
 // What an answer leads to, before it is put into the search.
@@ -121,7 +110,7 @@ pub(crate) fn asks(waiting: Waiting, x: f64) -> Next
 }
 
 // The search is over.
-pub(crate) fn ended(kept: Kept, outcome: Outcome) -> Next
+pub(crate) fn ended(kept: Option<Finished>, outcome: Outcome) -> Next
     ensures { result ≡ ended_of kept outcome }
 {
     Next {
