@@ -1,3 +1,4 @@
 pub mod Backtracking
 pub mod Machine
 pub mod Meaning
+pub mod Over

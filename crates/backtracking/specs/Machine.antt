@@ -9,6 +9,7 @@ use Rattle.floats.specs.Arithmetic.{◌⊗◌}
 use Rattle.refusals.specs.Results.{Result, refuse◌else◌}
 use Rattle.runs.specs.declared.Evaluations.{Evaluations}
 use Rattle.runs.specs.declared.Iterations.{Iterations}
+use Rattle.runs.specs.declared.Counts.{Counts}
 use Rattle.runs.specs.declared.Outcome.{Outcome}
 use Rattle.runs.specs.declared.Outcome.TheVariants.{Ask, Stop, Limit, Refused}
 use Rattle.refusals.specs.declared.Refusal.TheVariants.{SuppliedNotFinite, StepNotFinite, AlreadyOver}
@@ -73,6 +74,10 @@ answer_by s f g Over = record { search = s; outcome = Refused AlreadyOver }
 
 abbrev pub answer_of : Backtracking → Float → Float → Turn
 answer_of s f g = answer_by s f g s.stage
+
+-- what it has counted
+abbrev pub counted_of : Backtracking → Counts
+counted_of s = record { evaluations = s.evaluations; iterations = s.iterations }
 
 -- what `answer`'s contract says of its result
 abbrev pub AnswerSaid : Backtracking → Float → Float → Turn → Type 0

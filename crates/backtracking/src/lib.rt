@@ -7,12 +7,13 @@ ghost use Rattle.std.specs.Prelude.{◌≡◌};
 ghost use Rattle.backtracking.specs.Backtracking.{supplied_finite, in_ranges, defaults_of};
 ghost use Rattle.runs.specs.declared.Outcome.TheVariants.{Ask};
 ghost use Rattle.backtracking.specs.declared.Stage.TheVariants.{Later, Over};
-ghost use Rattle.backtracking.specs.Machine.{made_of, fresh_of, tried_of, StartSaid, AnswerSaid};
-ghost use Rattle.backtracking.specs.Meaning.{Starts, Follows};
+ghost use Rattle.backtracking.specs.Machine.{made_of, fresh_of, tried_of, answer_of, counted_of, StartSaid, AnswerSaid};
+ghost use Rattle.backtracking.specs.Meaning.{is_over, Starts, Follows};
+ghost use Rattle.backtracking.specs.Over.{stays};
 
 use conditions::Condition;
 use refusals::Refusal;
-use runs::{Evaluations, Iterations, Outcome, Verdict};
+use runs::{Counts, Evaluations, Iterations, Machine, Outcome, Verdict};
 
 #[derive(Clone, Copy)]
 pub struct Options {
@@ -176,17 +177,34 @@ impl Backtracking {
     }
 }
 
-// One answer, cost f and slope g: the search with it, and what comes next. It is the step that 01's rules take.
-pub fn answer(s: Backtracking, f: f64, g: f64) -> Turn
-    ensures exact { AnswerSaid s f g result }
-    ensures rules { Follows s f g result }
-{
-    match s.stage {
-        Stage::First => s.tried(s.iterations, s.setup.options.alpha, f, g),
-        Stage::Later(t) => s.tried(s.iterations.next(), t, f, g),
-        Stage::Over => Turn {
-            search: s,
-            outcome: Outcome::Refused(Refusal::AlreadyOver),
-        },
+// One answer is the step that 01's rules take.
+impl Machine for Backtracking {
+    ghost turn = { answer_of };
+
+    ghost counted = { counted_of };
+
+    ghost over = { λ s. is_over s.stage };
+
+    ghost stays = { stays };
+
+    fn answer(self, f: f64, g: f64) -> Turn
+        ensures exact { AnswerSaid self f g result }
+        ensures rules { Follows self f g result }
+    {
+        match self.stage {
+            Stage::First => self.tried(self.iterations, self.setup.options.alpha, f, g),
+            Stage::Later(t) => self.tried(self.iterations.next(), t, f, g),
+            Stage::Over => Turn {
+                search: self,
+                outcome: Outcome::Refused(Refusal::AlreadyOver),
+            },
+        }
+    }
+
+    fn counts(self) -> Counts {
+        Counts {
+            evaluations: self.evaluations,
+            iterations: self.iterations,
+        }
     }
 }

@@ -9,9 +9,10 @@ use Rattle.refusals.specs.declared.Refusal.{Refusal}
 use Rattle.refusals.specs.Refusals.{by_number}
 use Rattle.runs.specs.declared.Turn as Runs
 use Rattle.runs.specs.declared.Evaluations.{Evaluations}
+use Rattle.runs.specs.declared.Counts.{Counts}
 use Rattle.runs.specs.declared.Outcome.TheVariants.{Refused}
 use Rattle.refusals.specs.declared.Refusal.TheVariants.{SuppliedNotFinite, AlreadyOver}
-use Rattle.runs.specs.Counters.{one_more, evaluations}
+use Rattle.runs.specs.Counters.{one_more, evaluations, iterations}
 use Rattle.hagerzhang_rules.specs.declared.Options.{Options}
 use Rattle.hagerzhang_rules.specs.declared.Setup.{Setup}
 use Rattle.hagerzhang_steps.specs.declared.state.Trial.{Trial}
@@ -26,7 +27,8 @@ use Rattle.hagerzhang_steps.specs.declared.state.Stage.TheVariants.{Open, Over}
 use Rattle.hagerzhang_steps.specs.declared.state.Next.{Next}
 use Rattle.hagerzhang.specs.declared.state.Search.{Search}
 use Rattle.hagerzhang_rules.specs.Parameters.{setup_of, start_rows}
-use Rattle.hagerzhang_rules.specs.Rules.{answer_finite}
+use Rattle.hagerzhang_rules.specs.Rules.{answer_finite, iterations_in}
+use Rattle.hagerzhang_steps.specs.Reports.{kept_report}
 use Rattle.hagerzhang_steps.specs.State.{asks_of, ended_of}
 use Rattle.hagerzhang_steps.specs.Opening.{first_of}
 use Rattle.hagerzhang_steps.specs.Steps.{react_of}
@@ -92,6 +94,13 @@ answer_by s f g (Over kept) = record { search = s; outcome = Refused AlreadyOver
 
 abbrev pub answer_of : Search → Float → Float → Turn
 answer_of s f g = answer_by s f g s.stage
+
+-- what it has counted: no iteration is finished during the start
+abbrev pub counted_of : Search → Counts
+counted_of s = record {
+  evaluations = s.evaluations;
+  iterations = iterations (iterations_in (kept_report (held_of s)));
+}
 
 -- ---- a start
 

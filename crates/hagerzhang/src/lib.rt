@@ -10,6 +10,8 @@ ghost use Rattle.hagerzhang.specs.Machine.{
   fresh_of,
   StartSaid,
   AnswerSaid,
+  answer_of,
+  counted_of,
   keeps_of,
   held_of,
   step_asked,
@@ -19,18 +21,19 @@ ghost use Rattle.hagerzhang.specs.Machine.{
   taken_of,
 };
 ghost use Rattle.hagerzhang_steps.specs.Reports.{kept_report};
-ghost use Rattle.hagerzhang.specs.Meaning.{meant, Starts, Follows};
+ghost use Rattle.hagerzhang.specs.Meaning.{is_over, meant, Starts, Follows};
+ghost use Rattle.hagerzhang.specs.Over.{stays};
 
 use crate::state::turned;
 use hagerzhang_rules::{Options, Setup};
 use hagerzhang_steps::Next;
 use refusals::Refusal;
-use runs::{Evaluations, Outcome};
+use runs::{Counts, Evaluations, Machine, Outcome};
 
 mod state; // the search, and its builder
 
 pub use hagerzhang_steps::{
-    Asked, Finished, Growth, Narrowing, Opening, Rule, Stage, Trial, Waiting, iterations,
+    Asked, Finished, Growth, Narrowing, Opening, Rule, Stage, Trial, Waiting,
 };
 pub use state::{Search, Turn};
 
@@ -76,18 +79,34 @@ fn fresh(s: Setup) -> Turn
 
 // ---- the way of an answer
 
-// One answer, cost f and slope g: the search with it, and what comes next. It is the step that 01's rules take, of
-// any state whose L is no NaN.
-pub fn answer(s: Search, f: f64, g: f64) -> Turn
-    ensures exact { AnswerSaid s f g result }
-    ensures rules { is_nan s.setup.level ≡ false → Follows s f g result }
-{
-    match s.stage {
-        Stage::Open(waiting) => taken(s.setup, s.evaluations, waiting, f, g),
-        Stage::Over(_) => Turn {
-            search: s,
-            outcome: Outcome::Refused(Refusal::AlreadyOver),
-        },
+// One answer is the step that 01's rules take, of any state whose L is no NaN.
+impl Machine for Search {
+    ghost turn = { answer_of };
+
+    ghost counted = { counted_of };
+
+    ghost over = { λ s. is_over s.stage };
+
+    ghost stays = { stays };
+
+    fn answer(self, f: f64, g: f64) -> Turn
+        ensures exact { AnswerSaid self f g result }
+        ensures rules { is_nan self.setup.level ≡ false → Follows self f g result }
+    {
+        match self.stage {
+            Stage::Open(waiting) => taken(self.setup, self.evaluations, waiting, f, g),
+            Stage::Over(_) => Turn {
+                search: self,
+                outcome: Outcome::Refused(Refusal::AlreadyOver),
+            },
+        }
+    }
+
+    fn counts(self) -> Counts {
+        Counts {
+            evaluations: self.evaluations,
+            iterations: hagerzhang_steps::iterations(self.held()),
+        }
     }
 }
 
@@ -106,25 +125,27 @@ fn taken(s: Setup, n: Evaluations, waiting: Waiting, f: f64, g: f64) -> Turn
 
 // ---- what a search holds
 
-// Bracket, best and iterations of the last finished iteration, or of the start; none yet during the start.
-pub fn held(s: Search) -> Option<Finished>
-    ensures exact { result ≡ held_of s }
-    ensures rules { kept_report result ≡ reported (meant s) }
-{
-    match s.stage {
-        Stage::Open(waiting) => keeps(waiting),
-        Stage::Over(kept) => kept,
+impl Search {
+    // Bracket, best and iterations of the last finished iteration, or of the start; none yet during the start.
+    pub fn held(self) -> Option<Finished>
+        ensures exact { result ≡ held_of self }
+        ensures rules { kept_report result ≡ reported (meant self) }
+    {
+        match self.stage {
+            Stage::Open(waiting) => keeps(waiting),
+            Stage::Over(kept) => kept,
+        }
     }
-}
 
-// The step at which an answer is awaited, if there is one.
-pub fn awaited(s: Search) -> Option<f64>
-    ensures exact { result ≡ awaited_of s }
-    ensures rules { result ≡ awaits (meant s) }
-{
-    match s.stage {
-        Stage::Open(waiting) => Some(step_due(s.setup, waiting)),
-        Stage::Over(_) => None,
+    // The step at which an answer is awaited, if there is one.
+    pub fn awaited(self) -> Option<f64>
+        ensures exact { result ≡ awaited_of self }
+        ensures rules { result ≡ awaits (meant self) }
+    {
+        match self.stage {
+            Stage::Open(waiting) => Some(step_due(self.setup, waiting)),
+            Stage::Over(_) => None,
+        }
     }
 }
 

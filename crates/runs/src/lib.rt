@@ -2,7 +2,11 @@
 
 #![tactic(auto)]
 
-ghost use Rattle.std.specs.Prelude.{◌≡◌};
+ghost use Rattle.std.specs.Prelude.{◌≡◌, Float, Bool, true};
+ghost use Rattle.refusals.specs.declared.Refusal.TheVariants.{AlreadyOver};
+ghost use Rattle.runs.specs.declared.Counts.{Counts};
+ghost use Rattle.runs.specs.declared.Turn.{Turn};
+ghost use Rattle.runs.specs.declared.Outcome.TheVariants.{Refused};
 ghost use Rattle.runs.specs.Counters.{one_more, evaluations, iterations};
 
 use refusals::Refusal;
@@ -32,6 +36,30 @@ pub struct Turn<S> {
     pub outcome: Outcome,
 }
 
+// A search of either kind: it hands out a step, and takes one answer at a time.
+pub trait Machine: Copy {
+    // what an answer leads to
+    ghost turn: { Self → Float → Float → Turn Self };
+
+    // what it has counted
+    ghost counted: { Self → Counts };
+
+    // whether it is over
+    ghost over: { Self → Bool };
+
+    // One answer, cost f and slope g: the search with it, and what comes next.
+    fn answer(self, f: f64, g: f64) -> Turn<Self>
+        ensures { result ≡ turn self f g };
+
+    // Its evaluations and its finished iterations.
+    fn counts(self) -> Counts
+        ensures { result ≡ counted self };
+
+    // 01, refusal 8: once it is over it refuses whatever is said to it, and stays as it is.
+    ghost stays: { (s : Self) (f g : Float) → over s ≡ true
+        → turn s f g ≡ record { search = s; outcome = Refused AlreadyOver } };
+}
+
 // Finite answers that were accepted.
 #[derive(Clone, Copy)]
 pub struct Evaluations(pub u32);
@@ -39,6 +67,13 @@ pub struct Evaluations(pub u32);
 // Iterations that were finished.
 #[derive(Clone, Copy)]
 pub struct Iterations(pub u32);
+
+// What a search has counted.
+#[derive(Clone, Copy)]
+pub struct Counts {
+    pub evaluations: Evaluations,
+    pub iterations: Iterations,
+}
 
 // One more. It stops at the largest count, which no search that was started reaches.
 #[tactic(auto, unfolding(crate::specs::Counters::one_more))]

@@ -1,0 +1,22 @@
+-- 01, refusal 8: a search that is over refuses whatever is said to it, and stays as it is. Assumes nothing.
+use mathlib.Core.Path.{◌≡◌, refl}
+use mathlib.Core.Bool.{true, false≢true}
+use lib.Ieee.{Float}
+use Rattle.runs.specs.declared.Outcome.TheVariants.{Refused}
+use Rattle.refusals.specs.declared.Refusal.TheVariants.{AlreadyOver}
+use Rattle.backtracking.specs.declared.Stage.{Stage}
+use Rattle.backtracking.specs.declared.Stage.TheVariants.{First, Later, Over}
+use Rattle.backtracking.specs.declared.Backtracking.{Backtracking}
+use Rattle.backtracking.specs.Machine.{answer_by, answer_of}
+use Rattle.backtracking.specs.Meaning.{is_over}
+
+by_stage : (s : Backtracking) (f g : Float) (stage : Stage) → is_over stage ≡ true
+    → answer_by s f g stage ≡ record { search = s; outcome = Refused AlreadyOver }
+unfolding answer_by
+by_stage s f g First e = absurd (false≢true e)
+by_stage s f g (Later t) e = absurd (false≢true e)
+by_stage s f g Over e = refl
+
+pub stays : (s : Backtracking) (f g : Float) → is_over s.stage ≡ true
+    → answer_of s f g ≡ record { search = s; outcome = Refused AlreadyOver }
+stays s f g e = by_stage s f g s.stage e
