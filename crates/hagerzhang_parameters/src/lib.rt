@@ -46,13 +46,12 @@ pub fn defaults() -> Options
 fn params_finite(p: Params) -> bool
     ensures { result ≡ params_finite p }
 {
-    let wolfe = numbers::both_finite(p.delta, p.sigma);
-    let epsilon = numbers::is_finite(p.epsilon);
-    let theta = numbers::is_finite(p.theta);
-    let gamma = numbers::is_finite(p.gamma);
-    let eta = numbers::is_finite(p.eta);
-    let start = numbers::is_finite(p.start);
-    wolfe & epsilon & theta & gamma & eta & start
+    numbers::both_finite(p.delta, p.sigma)
+        & numbers::is_finite(p.epsilon)
+        & numbers::is_finite(p.theta)
+        & numbers::is_finite(p.gamma)
+        & numbers::is_finite(p.eta)
+        & numbers::is_finite(p.start)
 }
 
 // 02, request 3: "The bounds are not read", of a start that grows; it has none.
@@ -69,19 +68,14 @@ fn way_finite(way: Way) -> bool
 pub fn options_finite(o: Options) -> bool
     ensures { result ≡ options_finite o }
 {
-    let way = o.way;
-    let params = params_finite(o.params);
-    params & way_finite(way)
+    params_finite(o.params) & way_finite(o.way)
 }
 
 // Of a start: f0 and s0 are supplied too.
 pub fn supplied_finite(o: Options, f0: f64, s0: f64) -> bool
     ensures { result ≡ supplied_finite o f0 s0 }
 {
-    let options = options_finite(o);
-    let cost = numbers::is_finite(f0);
-    let slope = numbers::is_finite(s0);
-    options & cost & slope
+    options_finite(o) & numbers::is_finite(f0) & numbers::is_finite(s0)
 }
 
 // ---- refusal 3: "a parameter, B, N .. is outside its range"
@@ -109,8 +103,7 @@ pub fn in_ranges(o: Options) -> bool
         & (0.0 < p.gamma)
         & (p.gamma < 1.0)
         & (0.0 < p.eta);
-    let way = o.way;
-    let steps = way_in_range(way, p.start);
+    let steps = way_in_range(o.way, p.start);
     // "U3 budget B is 1 to 1,000 ..; iteration limit N is 1 to 10,000"
     let budget = (1 <= o.budget) & (o.budget <= 1000);
     let limit = (1 <= o.limit) & (o.limit <= 10000);
