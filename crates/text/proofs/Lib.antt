@@ -1,4 +1,3 @@
-pub mod Digits
 pub mod Samples
 pub mod Writing
 pub mod Runs

@@ -1,11 +1,11 @@
 -- A run of floats is written one by one. Assumes nothing.
 use mathlib.Core.Path.{◌≡◌, refl, sym, ap, ◌∙◌}
 use mathlib.Core.List.{List, [], ◌∷◌, ◌++◌, append_assoc}
-use Prim.Native.Nat.{ℕ, ◌+◌, ◌<◌, ◌≤◌}
+use Prim.Native.Nat.{ℕ, ◌+◌, ◌<◌}
 use native.Mathlib.Numerals.{add-one}
 use lib.Ieee.{Float, nan}
 use lib.ListN.{length, get_or, take}
-use lib.Seq.{take-suc, take_all}
+use lib.Seq.{take-suc}
 use Rattle.text.specs.Text.{Page, write}
 use Rattle.text.proofs.Writing.{then}
 use Rattle.text.specs.Figures.{next_text, floats_text}
@@ -21,7 +21,3 @@ pub then-float : (p : Page) {q r : Page} (xs : List Float) (i : ℕ) → i < len
     → r ≡ write p (floats_text (take (i + 1) xs))
 then-float p xs i h first next =
     rw (add-one, take-suc xs i nan h, both (take i xs) (get_or xs i nan ∷ [])) (then p _ _ first next)
-
-pub all-floats : (p : Page) {q : Page} (xs : List Float) (i : ℕ) → length xs ≤ i
-    → q ≡ write p (floats_text (take i xs)) → q ≡ write p (floats_text xs)
-all-floats p xs i h e = e ∙ ap (λ l. write p (floats_text l)) (take_all i xs h)

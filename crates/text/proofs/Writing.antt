@@ -10,7 +10,7 @@ use borrow.Author.Tests.{lt-ltb, ltb-true}
 use native.Mathlib.Omega.{arith}
 use lib.Dec.{ltb}
 use lib.ListN.{length, get_or, take, drop, set, length-set}
-use lib.Seq.{take-suc, take_all, sets, sets-eq}
+use lib.Seq.{take-suc, sets, sets-eq}
 use Rattle.text.specs.Text.{Page, page, put, write, Writes}
 
 -- ---- a page gives both the buffer and the place
@@ -34,13 +34,12 @@ pub then : (p : Page) {q r : Page} (s t : List ℕ) → q ≡ write p s → r �
 unfolding write
 then p s t first next = next ∙ ap (λ q. write q t) first ∙ sym (foldl-append put p s t)
 
+pub ruleset writing = (nothing, then)
+
 -- the first i bytes of a word, and one more
 pub then-byte : (p : Page) {q r : Page} (w : List ℕ) (i : ℕ) → i < length w → q ≡ write p (take i w)
     → r ≡ write q (get_or w i 0 ∷ []) → r ≡ write p (take (i + 1) w)
 then-byte p w i h first next = rw (add-one, take-suc w i 0 h) (then p (take i w) (get_or w i 0 ∷ []) first next)
-
-pub whole : (p : Page) {q : Page} (w : List ℕ) (i : ℕ) → length w ≤ i → q ≡ write p (take i w) → q ≡ write p w
-whole p w i h e = e ∙ ap (write p) (take_all i w h)
 
 -- ---- where there is room, the text stands at its place and all else is as it was
 

@@ -8,6 +8,7 @@ ghost use Rattle.text.specs.Text.{Writes, digit, hex_of, decimal_of, decimal_up_
 ghost use Rattle.text.specs.Figures.{next_text, floats_text, floats_line, number_line};
 
 // One byte; a full buffer stays as it is.
+#[tactic(auto, unfolding(crate::specs::Text::write))]
 pub fn byte(out: &mut [u8], at: usize, b: u8) -> usize
     ensures { Writes out.old at (b ∷ []) out.new result }
 {
@@ -22,10 +23,8 @@ pub fn word(out: &mut [u8], at: usize, w: &[u8]) -> usize
     ensures { Writes out.old at w.now out.new result }
 {
     let mut next = at;
-    let mut i = 0;
-    while i < w.len() {
-        next = byte(out, next, w[i]);
-        i += 1;
+    for b in w {
+        next = byte(out, next, *b);
     }
     next
 }
@@ -35,31 +34,22 @@ fn digit(d: u64) -> u8
     requires { d < 16 }
     ensures { result ≡ digit d }
 {
-    if d < 10 { 48 + d as u8 } else { 55 + d as u8 }
+    if d < 10 {
+        b'0' + d as u8
+    } else {
+        b'A' - 10 + d as u8
+    }
 }
 
+// The sixteen digits of w, each of four bits, the highest first.
 fn hex_digits(w: u64) -> [u8; 16]
     ensures { result ≡ hex_of w }
 {
-    let d0 = digit(w / 0x1000_0000_0000_0000 % 16);
-    let d1 = digit(w / 0x100_0000_0000_0000 % 16);
-    let d2 = digit(w / 0x10_0000_0000_0000 % 16);
-    let d3 = digit(w / 0x1_0000_0000_0000 % 16);
-    let d4 = digit(w / 0x1000_0000_0000 % 16);
-    let d5 = digit(w / 0x100_0000_0000 % 16);
-    let d6 = digit(w / 0x10_0000_0000 % 16);
-    let d7 = digit(w / 0x1_0000_0000 % 16);
-    let d8 = digit(w / 0x1000_0000 % 16);
-    let d9 = digit(w / 0x100_0000 % 16);
-    let d10 = digit(w / 0x10_0000 % 16);
-    let d11 = digit(w / 0x1_0000 % 16);
-    let d12 = digit(w / 0x1000 % 16);
-    let d13 = digit(w / 0x100 % 16);
-    let d14 = digit(w / 0x10 % 16);
-    let d15 = digit(w % 16);
-    [
-        d0, d1, d2, d3, d4, d5, d6, d7, d8, d9, d10, d11, d12, d13, d14, d15,
-    ]
+    let mut digits = [0; 16];
+    for (i, d) in digits.iter_mut().enumerate() {
+        *d = digit((w >> (60 - 4 * i)) % 16);
+    }
+    digits
 }
 
 // The sixteen digits of w in base 16, in upper case.
@@ -71,6 +61,7 @@ pub fn hex(out: &mut [u8], at: usize, w: u64) -> usize
 }
 
 // The last k digits at most.
+#[tactic(auto, unfolding(crate::specs::Text::decimal_up_to), using(crate::proofs::Writing::writing))]
 fn decimal_up_to(out: &mut [u8], at: usize, k: u32, n: u64) -> usize
     ensures { Writes out.old at (decimal_up_to k n) out.new result }
 {
@@ -105,15 +96,14 @@ fn floats(out: &mut [u8], at: usize, xs: &[f64]) -> usize
     ensures { Writes out.old at (floats_text xs.now) out.new result }
 {
     let mut p = at;
-    let mut i = 0;
-    while i < xs.len() {
-        p = float(out, p, xs[i]);
-        i += 1;
+    for x in xs {
+        p = float(out, p, *x);
     }
     p
 }
 
 // A line of a word and floats.
+#[tactic(auto, using(crate::proofs::Writing::then))]
 pub fn floats_line(out: &mut [u8], at: usize, w: &[u8], v: &[f64]) -> usize
     ensures { Writes out.old at (floats_line w.now v.now) out.new result }
 {
@@ -123,6 +113,7 @@ pub fn floats_line(out: &mut [u8], at: usize, w: &[u8], v: &[f64]) -> usize
 }
 
 // A line, or its end, of a word and a number.
+#[tactic(auto, using(crate::proofs::Writing::then))]
 pub fn number_line(out: &mut [u8], at: usize, w: &[u8], n: u64) -> usize
     ensures { Writes out.old at (number_line w.now n) out.new result }
 {

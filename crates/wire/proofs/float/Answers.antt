@@ -1,7 +1,0 @@
--- `wire::float` meets its contract. Assumes nothing.
-use mathlib.Core.Path.{ap, ◌∙◌}
-use lib.Ieee.{binary64, of_bits}
-use Rattle.wire.proofs.float.Goals as goal
-
-pub returns : goal.returns
-returns c = c.float_of.ensures ∙ ap (of_bits binary64) c.word.ensures
