@@ -1,3 +1,4 @@
 pub mod Samples
 pub mod Writing
 pub mod Runs
+pub mod Digits

@@ -6,7 +6,8 @@ use native.Mathlib.Numerals.{add-one}
 use lib.Ieee.{Float, nan}
 use lib.ListN.{length, get_or, take}
 use lib.Seq.{take-suc}
-use Rattle.text.specs.Text.{Page, write}
+use Rattle.text.specs.declared.Cursor.{Cursor}
+use Rattle.text.specs.Text.{Writes}
 use Rattle.text.proofs.Writing.{then}
 use Rattle.text.specs.Figures.{next_text, floats_text}
 
@@ -16,8 +17,7 @@ both (x ∷ xs) ys =
     ap (λ t. next_text x ++ t) (both xs ys) ∙ sym (append_assoc (next_text x) (floats_text xs) (floats_text ys))
 
 -- the first i floats, and one more
-pub then-float : (p : Page) {q r : Page} (xs : List Float) (i : ℕ) → i < length xs
-    → q ≡ write p (floats_text (take i xs)) → r ≡ write q (next_text (get_or xs i nan))
-    → r ≡ write p (floats_text (take (i + 1) xs))
-then-float p xs i h first next =
-    rw (add-one, take-suc xs i nan h, both (take i xs) (get_or xs i nan ∷ [])) (then p _ _ first next)
+pub then-float : {p q r : Cursor} (xs : List Float) (i : ℕ) → i < length xs → Writes p (floats_text (take i xs)) q
+    → Writes q (next_text (get_or xs i nan)) r → Writes p (floats_text (take (i + 1) xs)) r
+then-float xs i h first next =
+    rw (add-one, take-suc xs i nan h, both (take i xs) (get_or xs i nan ∷ [])) (then _ _ first next)

@@ -11,6 +11,7 @@ use native.Mathlib.Omega.{arith}
 use lib.Dec.{ltb}
 use lib.ListN.{length, get_or, take, drop, set, length-set}
 use lib.Seq.{take-suc, sets, sets-eq}
+use Rattle.text.specs.declared.Cursor.{Cursor}
 use Rattle.text.specs.Text.{Page, page, put, write, Writes}
 
 -- ---- a page gives both the buffer and the place
@@ -19,27 +20,34 @@ pub told : (a b : List ℕ) (i j : ℕ) → page a i ≡ page b j → (a ≡ b) 
 told a b i j e = (ap (λ p. p.held) e, ap (λ p. p.at) e)
 
 -- 01: "any two results it allows are proved identical", of every contract that writes text
-pub writes-determined : (before : List ℕ) (at : ℕ) (text : List ℕ) (after later : List ℕ) (i j : ℕ)
-    → Writes before at text after i → Writes before at text later j → (after ≡ later) × (i ≡ j)
-writes-determined before at text after later i j e e' = told after later i j (e ∙ sym e')
+pub writes-determined : (p : Cursor) (text : List ℕ) (q r : Cursor) → Writes p text q → Writes p text r
+    → (q.buffer.now ≡ r.buffer.now) × (q.at ≡ r.at)
+writes-determined p text q r w w' = told q.buffer.now r.buffer.now q.at r.at (w.written ∙ sym w'.written)
 
 -- ---- text after text
 
-pub nothing : (p : Page) → p ≡ write p []
+pub nothing : (p : Cursor) → Writes p [] p
 unfolding write
-nothing p = refl
+nothing p = record { same_buffer = refl; written = refl }
 
 -- of three pages each is the former with a text written to it
-pub then : (p : Page) {q r : Page} (s t : List ℕ) → q ≡ write p s → r ≡ write q t → r ≡ write p (s ++ t)
+pub then-page : (p : Page) {q r : Page} (s t : List ℕ) → q ≡ write p s → r ≡ write q t → r ≡ write p (s ++ t)
 unfolding write
-then p s t first next = next ∙ ap (λ q. write q t) first ∙ sym (foldl-append put p s t)
+then-page p s t first next = next ∙ ap (λ q. write q t) first ∙ sym (foldl-append put p s t)
+
+pub then : {p q r : Cursor} (s t : List ℕ) → Writes p s q → Writes q t r → Writes p (s ++ t) r
+then s t first next = record {
+  same_buffer = next.same_buffer ∙ first.same_buffer;
+  written = then-page _ s t first.written next.written;
+}
 
 pub ruleset writing = (nothing, then)
 
 -- the first i bytes of a word, and one more
-pub then-byte : (p : Page) {q r : Page} (w : List ℕ) (i : ℕ) → i < length w → q ≡ write p (take i w)
-    → r ≡ write q (get_or w i 0 ∷ []) → r ≡ write p (take (i + 1) w)
-then-byte p w i h first next = rw (add-one, take-suc w i 0 h) (then p (take i w) (get_or w i 0 ∷ []) first next)
+pub then-byte : {p q r : Cursor} (w : List ℕ) (i : ℕ) → i < length w → Writes p (take i w) q
+    → Writes q (get_or w i 0 ∷ []) r → Writes p (take (i + 1) w) r
+then-byte w i h first next =
+    rw (add-one, take-suc w i 0 h) (then (take i w) (get_or w i 0 ∷ []) first next)
 
 -- ---- where there is room, the text stands at its place and all else is as it was
 

@@ -1,5 +1,6 @@
 -- Text as bytes of ASCII, and what a lent buffer holds once text is written to it.
 use Rattle.std.specs.Prelude.{ℕ, zero, suc, ◌+◌, ◌/◌, ◌%◌, ◌^◌, ◌≡◌, cond, ltb, length, set}
+use Rattle.text.specs.declared.Cursor.{Cursor}
 use Prim.Native.Char.{code}
 use Prim.Native.String.{String}
 use Prim.Native.String as Quoted
@@ -23,9 +24,10 @@ put p b = cond (ltb p.at (length p.held)) (page (set p.held p.at b) (p.at + 1)) 
 unfoldable pub write : Page → List ℕ → Page
 write p text = foldl put p text
 
--- the buffer held `before`, and the text was written at `at`; now it holds `after`, and r is the place behind
-abbrev pub Writes : List ℕ → ℕ → List ℕ → List ℕ → ℕ → Type 0
-Writes before at text after r = page after r ≡ write (page before at) text
+-- the text was written: q lends the buffer that p lent, with the text in it from p's place on, and stands behind it
+pub record Writes (p : Cursor) (text : List ℕ) (q : Cursor) : Type 0 where
+  pub same_buffer : q.buffer.ghost_name ≡ p.buffer.ghost_name
+  pub written : page q.buffer.now q.at ≡ write (page p.buffer.now p.at) text
 
 -- ---- text
 

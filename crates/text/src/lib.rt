@@ -1,5 +1,5 @@
-// Text written into a lent buffer: bytes, words and numbers. Each function writes at a place, as much as there is room
-// for, and answers the place behind it.
+// Text written into a lent buffer: bytes, words and numbers. A cursor holds the buffer and the place of the next byte;
+// each method writes there, as much as there is room for, and moves the place behind it.
 
 #![tactic(auto)]
 
@@ -7,26 +7,10 @@ ghost use Rattle.std.specs.Prelude.{[], ◌∷◌, ◌≡◌, ◌<◌};
 ghost use Rattle.text.specs.Text.{Writes, digit, hex_of, decimal_of, decimal_up_to};
 ghost use Rattle.text.specs.Figures.{next_text, floats_text, floats_line, number_line};
 
-// One byte; a full buffer stays as it is.
-#[tactic(auto, unfolding(crate::specs::Text::write))]
-pub fn byte(out: &mut [u8], at: usize, b: u8) -> usize
-    ensures { Writes out.old at (b ∷ []) out.new result }
-{
-    if at < out.len() {
-        out[at] = b;
-        return at + 1;
-    }
-    at
-}
-
-pub fn word(out: &mut [u8], at: usize, w: &[u8]) -> usize
-    ensures { Writes out.old at w.now out.new result }
-{
-    let mut next = at;
-    for b in w {
-        next = byte(out, next, *b);
-    }
-    next
+pub struct Cursor<'a> {
+    pub buffer: &'a mut [u8],
+    // the place of the next byte
+    pub at: usize,
 }
 
 // The digit of a number below 16.
@@ -52,72 +36,89 @@ fn hex_digits(w: u64) -> [u8; 16]
     digits
 }
 
-// The sixteen digits of w in base 16, in upper case.
-pub fn hex(out: &mut [u8], at: usize, w: u64) -> usize
-    ensures { Writes out.old at (hex_of w) out.new result }
-{
-    let digits = hex_digits(w);
-    word(out, at, &digits)
-}
-
-// The last k digits at most.
-#[tactic(auto, unfolding(crate::specs::Text::decimal_up_to), using(crate::proofs::Writing::writing))]
-fn decimal_up_to(out: &mut [u8], at: usize, k: u32, n: u64) -> usize
-    ensures { Writes out.old at (decimal_up_to k n) out.new result }
-{
-    if k == 0 {
-        return at;
+impl Cursor<'_> {
+    // One byte; a full buffer stays as it is.
+    #[tactic(auto, unfolding(crate::specs::Text::write))]
+    pub fn byte(&mut self, b: u8)
+        ensures { Writes self.old (b ∷ []) self.new }
+    {
+        if self.at < self.buffer.len() {
+            self.buffer[self.at] = b;
+            self.at += 1;
+        }
     }
-    if n < 10 {
-        return byte(out, at, digit(n));
+
+    pub fn word(&mut self, w: &[u8])
+        ensures { Writes self.old w.now self.new }
+    {
+        for b in w {
+            self.byte(*b);
+        }
     }
-    let last = decimal_up_to(out, at, k - 1, n / 10);
-    byte(out, last, digit(n % 10))
-}
 
-// n in decimal.
-pub fn decimal(out: &mut [u8], at: usize, n: u64) -> usize
-    ensures { Writes out.old at (decimal_of n) out.new result }
-{
-    decimal_up_to(out, at, 20, n)
-}
-
-// ---- numbers as they stand in a line
-
-// A blank, and the float's 64 bits.
-pub fn float(out: &mut [u8], at: usize, x: f64) -> usize
-    ensures { Writes out.old at (next_text x) out.new result }
-{
-    let digits = byte(out, at, b' ');
-    hex(out, digits, numbers::bits_of(x))
-}
-
-fn floats(out: &mut [u8], at: usize, xs: &[f64]) -> usize
-    ensures { Writes out.old at (floats_text xs.now) out.new result }
-{
-    let mut p = at;
-    for x in xs {
-        p = float(out, p, *x);
+    // The sixteen digits of w in base 16, in upper case.
+    pub fn hex(&mut self, w: u64)
+        ensures { Writes self.old (hex_of w) self.new }
+    {
+        self.word(&hex_digits(w));
     }
-    p
-}
 
-// A line of a word and floats.
-#[tactic(auto, using(crate::proofs::Writing::then))]
-pub fn floats_line(out: &mut [u8], at: usize, w: &[u8], v: &[f64]) -> usize
-    ensures { Writes out.old at (floats_line w.now v.now) out.new result }
-{
-    let p = word(out, at, w);
-    let q = floats(out, p, v);
-    byte(out, q, b'\n')
-}
+    // The last k digits at most.
+    #[tactic(auto, unfolding(crate::specs::Text::decimal_up_to), using(crate::proofs::Writing::writing))]
+    fn decimal_up_to(&mut self, k: u32, n: u64)
+        ensures { Writes self.old (decimal_up_to k n) self.new }
+    {
+        if k == 0 {
+            return;
+        }
+        if n < 10 {
+            self.byte(digit(n));
+            return;
+        }
+        self.decimal_up_to(k - 1, n / 10);
+        self.byte(digit(n % 10));
+    }
 
-// A line, or its end, of a word and a number.
-#[tactic(auto, using(crate::proofs::Writing::then))]
-pub fn number_line(out: &mut [u8], at: usize, w: &[u8], n: u64) -> usize
-    ensures { Writes out.old at (number_line w.now n) out.new result }
-{
-    let digits = word(out, at, w);
-    let end = decimal(out, digits, n);
-    byte(out, end, b'\n')
+    // n in decimal.
+    pub fn decimal(&mut self, n: u64)
+        ensures { Writes self.old (decimal_of n) self.new }
+    {
+        self.decimal_up_to(20, n);
+    }
+
+    // ---- numbers as they stand in a line
+
+    // A blank, and the float's 64 bits.
+    pub fn float(&mut self, x: f64)
+        ensures { Writes self.old (next_text x) self.new }
+    {
+        self.byte(b' ');
+        self.hex(numbers::bits_of(x));
+    }
+
+    fn floats(&mut self, xs: &[f64])
+        ensures { Writes self.old (floats_text xs.now) self.new }
+    {
+        for x in xs {
+            self.float(*x);
+        }
+    }
+
+    // A line of a word and floats.
+    pub fn floats_line(&mut self, w: &[u8], v: &[f64])
+        ensures { Writes self.old (floats_line w.now v.now) self.new }
+    {
+        self.word(w);
+        self.floats(v);
+        self.byte(b'\n');
+    }
+
+    // A line, or its end, of a word and a number.
+    pub fn number_line(&mut self, w: &[u8], n: u64)
+        ensures { Writes self.old (number_line w.now n) self.new }
+    {
+        self.word(w);
+        self.decimal(n);
+        self.byte(b'\n');
+    }
 }

@@ -1,5 +1,5 @@
 -- `text::decimal_up_to` ends: the measure is k.
-use Rattle.text.proofs.+decimal_up_to.Given as goal
+use Rattle.text.proofs.Cursor.+decimal_up_to.Given as goal
 
 abbrev pub decreases-decimal_up_to : goal.decreases-decimal_up_to
 decreases-decimal_up_to l = l.k
