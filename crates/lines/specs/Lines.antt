@@ -2,11 +2,16 @@
 use Rattle.std.specs.Prelude.{ℕ, List, [], ◌∷◌, ◌++◌, Float}
 use Rattle.text.specs.Text.{bytes, decimal_of}
 use Rattle.text.specs.Figures.{next_text, number_line, floats_line}
+use Rattle.runs.specs.declared.Counts.{Counts}
 use Rattle.runs.specs.Outcomes.{Word, met, wolfe, approximate, stop, limit, refusal, Told, asks, ends}
 
 -- "both counts as above"
 abbrev pub counts_text : ℕ → ℕ → List ℕ
 counts_text e i = bytes " evaluations " ++ decimal_of e ++ bytes " iterations " ++ decimal_of i ++ bytes "\n"
+
+-- of what a search has counted
+abbrev pub counts_of : Counts → List ℕ
+counts_of c = counts_text c.evaluations.0 c.iterations.0
 
 abbrev pub verdict_text : Word → List ℕ
 verdict_text met = bytes "met"

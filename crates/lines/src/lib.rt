@@ -1,6 +1,6 @@
-// What the programs show of a search, as lines of text: an outcome, and the lines that close a search. Each
-// function writes into a lent buffer as those of the crate text do: at a place, as much as there is room for, and it
-// answers the place behind. docs/FORMATS.md has all lines; h stands there for a float's 64 bits in hex.
+// What the programs show of a search, as lines of text: an outcome, and the lines that close a search. Each function
+// writes at a cursor as the methods of the crate text do. docs/FORMATS.md has all lines; h stands there for a float's
+// 64 bits in hex.
 
 #![tactic(auto)]
 
@@ -9,100 +9,123 @@ ghost use Rattle.runs.specs.Outcomes.{verdict_word, told};
 ghost use Rattle.text.specs.Text.{Writes, bytes};
 ghost use Rattle.hagerzhang_steps.specs.Reports.{last_of};
 ghost use Rattle.hagerzhang.specs.Meaning.{report};
-ghost use Rattle.lines.specs.Lines.{verdict_text, counts_text, stop_line, limit_line, refused_line, outcome_line};
+ghost use Rattle.lines.specs.Lines.{verdict_text, counts_of, stop_line, limit_line, refused_line, outcome_line};
 ghost use Rattle.lines.specs.Closing.{no_bracket_text, closing_text};
 
-use hagerzhang::{Finished, Kept, Search};
-use runs::{Evaluations, Iterations, Outcome, Verdict};
+use hagerzhang::{Finished, Search};
+use runs::{Counts, Evaluations, Iterations, Machine, Outcome, Turn, Verdict};
+use text::Cursor;
 
 // ---- an outcome: ASK, STOP, LIMIT or REFUSED
 
 // ` evaluations e iterations i`, with which a line ends.
-fn counts(out: &mut [u8], at: usize, e: Evaluations, i: Iterations) -> usize
-    ensures { Writes out.old at (counts_text e.0 i.0) out.new result }
+fn counts(page: &mut Cursor, c: Counts)
+    ensures { Writes page.old (counts_of c) page.new }
 {
-    let p = text::word(out, at, b" evaluations ");
-    let q = text::decimal(out, p, e.0 as u64);
-    text::number_line(out, q, b" iterations ", i.0 as u64)
+    page.word(b" evaluations ");
+    page.decimal(c.evaluations.0 as u64);
+    page.number_line(b" iterations ", c.iterations.0 as u64);
 }
 
 // `REFUSED n`
-pub fn refused(out: &mut [u8], at: usize, n: u32) -> usize
-    ensures { Writes out.old at (refused_line n) out.new result }
+pub fn refused(page: &mut Cursor, n: u32)
+    ensures { Writes page.old (refused_line n) page.new }
 {
-    text::number_line(out, at, b"REFUSED ", n as u64)
+    page.number_line(b"REFUSED ", n as u64);
 }
 
 // `STOP word`, the beginning of a stop's line.
-fn verdict(out: &mut [u8], at: usize, v: Verdict) -> usize
-    ensures { Writes out.old at (bytes "STOP " ++ verdict_text (verdict_word v)) out.new result }
+fn verdict(page: &mut Cursor, v: Verdict)
+    ensures { Writes page.old (bytes "STOP " ++ verdict_text (verdict_word v)) page.new }
 {
     match v {
-        Verdict::Met => text::word(out, at, b"STOP met"),
-        Verdict::Wolfe => text::word(out, at, b"STOP wolfe"),
-        Verdict::Approximate => text::word(out, at, b"STOP approximate"),
+        Verdict::Met => page.word(b"STOP met"),
+        Verdict::Wolfe => page.word(b"STOP wolfe"),
+        Verdict::Approximate => page.word(b"STOP approximate"),
     }
 }
 
 // `STOP word h evaluations e iterations i`
-fn stop(out: &mut [u8], at: usize, v: Verdict, x: f64, e: Evaluations, i: Iterations) -> usize
-    ensures { Writes out.old at (stop_line (verdict_word v) x e.0 i.0) out.new result }
+fn stop(page: &mut Cursor, v: Verdict, x: f64, c: Counts)
+    ensures { Writes page.old (stop_line (verdict_word v) x c.evaluations.0 c.iterations.0) page.new }
 {
-    let p = verdict(out, at, v);
-    let q = text::float(out, p, x);
-    counts(out, q, e, i)
+    verdict(page, v);
+    page.float(x);
+    counts(page, c);
 }
 
 // `LIMIT h evaluations e iterations i`
-fn limit(out: &mut [u8], at: usize, x: f64, e: Evaluations, i: Iterations) -> usize
-    ensures { Writes out.old at (limit_line x e.0 i.0) out.new result }
+fn limit(page: &mut Cursor, x: f64, c: Counts)
+    ensures { Writes page.old (limit_line x c.evaluations.0 c.iterations.0) page.new }
 {
-    let p = text::word(out, at, b"LIMIT");
-    let q = text::float(out, p, x);
-    counts(out, q, e, i)
+    page.word(b"LIMIT");
+    page.float(x);
+    counts(page, c);
 }
 
-// The line of an outcome; e and i are the search's counts. An ask is `ASK h`.
-pub fn outcome(out: &mut [u8], at: usize, o: Outcome, e: Evaluations, i: Iterations) -> usize
-    ensures { Writes out.old at (outcome_line (told o) e.0 i.0) out.new result }
+// The line of an outcome, of a search with these counts. An ask is `ASK h`.
+pub fn outcome(page: &mut Cursor, o: Outcome, c: Counts)
+    ensures { Writes page.old (outcome_line (told o) c.evaluations.0 c.iterations.0) page.new }
 {
     match o {
-        Outcome::Ask(x) => text::floats_line(out, at, b"ASK", &[x]),
-        Outcome::Stop(v, x) => stop(out, at, v, x, e, i),
-        Outcome::Limit(x) => limit(out, at, x, e, i),
-        Outcome::Refused(k) => refused(out, at, k.number()),
+        Outcome::Ask(x) => page.floats_line(b"ASK", &[x]),
+        Outcome::Stop(v, x) => stop(page, v, x, c),
+        Outcome::Limit(x) => limit(page, x, c),
+        Outcome::Refused(k) => refused(page, k.number()),
     }
+}
+
+// The line of what a search of either kind says.
+pub fn turn<M: Machine>(page: &mut Cursor, t: Turn<M>)
+    ensures { Writes page.old
+        (outcome_line (told t.outcome) (M.counted t.search).evaluations.0 (M.counted t.search).iterations.0)
+        page.new }
+{
+    outcome(page, t.outcome, t.search.counts());
 }
 
 // ---- the three lines that close a search: its bracket, its best and its counts
 
 // Of a search that has neither bracket nor best: `BRACKET none`, `BEST none`, `COUNTS evaluations e iterations i`.
-pub fn no_bracket(out: &mut [u8], at: usize, e: Evaluations, i: Iterations) -> usize
-    ensures { Writes out.old at (no_bracket_text e.0 i.0) out.new result }
+pub fn no_bracket(page: &mut Cursor, c: Counts)
+    ensures { Writes page.old (no_bracket_text c.evaluations.0 c.iterations.0) page.new }
 {
-    let p = text::word(out, at, b"BRACKET none\nBEST none\nCOUNTS");
-    counts(out, p, e, i)
+    page.word(b"BRACKET none\nBEST none\nCOUNTS");
+    counts(page, c);
 }
 
 // Of a Hager-Zhang search whose last finished iteration, or start, left f.
-fn finished(out: &mut [u8], at: usize, f: Finished, e: Evaluations) -> usize
-    ensures { Writes out.old at (closing_text (last_of f) e.0) out.new result }
+fn finished(page: &mut Cursor, f: Finished, evaluations: Evaluations)
+    ensures { Writes page.old (closing_text (last_of f) evaluations.0) page.new }
 {
     let a = f.bracket.a;
     let b = f.bracket.b;
-    let p = text::floats_line(out, at, b"BRACKET", &[a.x, a.f, a.g, b.x, b.f, b.g]);
+    page.floats_line(b"BRACKET", &[a.x, a.f, a.g, b.x, b.f, b.g]);
     let best = f.best;
-    let q = text::floats_line(out, p, b"BEST", &[best.x, best.f, best.g]);
-    let r = text::word(out, q, b"COUNTS");
-    counts(out, r, e, f.iterations)
+    page.floats_line(b"BEST", &[best.x, best.f, best.g]);
+    page.word(b"COUNTS");
+    counts(
+        page,
+        Counts {
+            evaluations,
+            iterations: f.iterations,
+        },
+    );
 }
 
 // Of a Hager-Zhang search as it stands.
-pub fn closing(out: &mut [u8], at: usize, s: Search) -> usize
-    ensures { Writes out.old at (closing_text (report s) s.evaluations.0) out.new result }
+pub fn closing(page: &mut Cursor, s: Search)
+    ensures { Writes page.old (closing_text (report s) s.evaluations.0) page.new }
 {
-    match hagerzhang::held(s) {
-        Kept::NoneYet => no_bracket(out, at, s.evaluations, Iterations(0)),
-        Kept::Last(f) => finished(out, at, f, s.evaluations),
+    let evaluations = s.evaluations;
+    match s.held() {
+        Some(f) => finished(page, f, evaluations),
+        None => no_bracket(
+            page,
+            Counts {
+                evaluations,
+                iterations: Iterations(0),
+            },
+        ),
     }
 }

@@ -8,6 +8,7 @@ ghost use Rattle.text.specs.Text.{Writes};
 ghost use Rattle.stored_jobs.specs.Kept.{relies, kept_of};
 
 use jobs::Reading;
+use text::Cursor;
 
 // Whether the bytes are a job that has no field 2. Such a field would stand behind the curve's, which has four bytes.
 fn relies(job: &[u8]) -> bool
@@ -21,18 +22,15 @@ fn relies(job: &[u8]) -> bool
 
 // Writes the job, with the old bounds as its field 2 where it has none. A job that has one, and bytes that are no job,
 // are written as they are.
-pub fn with_bounds(out: &mut [u8], at: usize, job: &[u8]) -> usize
-    ensures { Writes out.old at (kept_of job.now) out.new result }
+pub fn with_bounds(page: &mut Cursor, job: &[u8])
+    ensures { Writes page.old (kept_of job.now) page.new }
 {
     if relies(job) {
-        let p = text::word(out, at, &job[..4]);
+        page.word(&job[..4]);
         // tag 2, length 16; 2^-52, then 1e5
-        let q = text::word(
-            out,
-            p,
-            b"\x02\0\x10\x3C\xB0\0\0\0\0\0\0\x40\xF8\x6A\0\0\0\0\0",
-        );
-        return text::word(out, q, wire::from(job, 4));
+        page.word(b"\x02\0\x10\x3C\xB0\0\0\0\0\0\0\x40\xF8\x6A\0\0\0\0\0");
+        page.word(wire::from(job, 4));
+    } else {
+        page.word(job);
     }
-    text::word(out, at, job)
 }

@@ -2,10 +2,10 @@
 use Rattle.hagerzhang_steps.specs.Reports.{kept_report}
 use Rattle.lines.proofs.closing.Goals as goal
 
-pub returns-in-NoneYet : goal.returns-in-NoneYet
+pub returns-in-None : goal.returns-in-None
 unfolding kept_report
-returns-in-NoneYet c = rw (← c.held.ensures.exact, c.in-NoneYet.is) c.no_bracket.ensures
+returns-in-None c = rw (← c.held.ensures.exact, c.in-None.is) c.no_bracket.ensures
 
-pub returns-in-Last : goal.returns-in-Last
+pub returns-in-Some : goal.returns-in-Some
 unfolding kept_report
-returns-in-Last c = rw (← c.held.ensures.exact, c.in-Last.is) c.finished.ensures
+returns-in-Some c = rw (← c.held.ensures.exact, c.in-Some.is) c.finished.ensures

@@ -5,5 +5,4 @@ use Rattle.lines.proofs.counts.Goals as goal
 
 pub returns : goal.returns
 returns c =
-    rw (append_assoc, append_assoc)
-    (then _ _ _ (then _ _ _ c.word-p.ensures c.decimal-q.ensures) c.number_line.ensures)
+    rw (append_assoc, append_assoc) (then _ _ (then _ _ c.word.ensures c.decimal.ensures) c.number_line.ensures)

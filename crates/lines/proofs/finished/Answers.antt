@@ -4,5 +4,5 @@ use Rattle.lines.proofs.finished.Goals as goal
 
 pub returns : goal.returns
 returns c =
-    let points = then _ _ _ c.floats_line-p.ensures c.floats_line-q.ensures in
-    then _ _ _ (then _ _ _ points c.word-r.ensures) c.counts.ensures
+    let points = then _ _ c.floats_line.ensures c.floats_line-2.ensures in
+    then _ _ (then _ _ points c.word.ensures) c.counts.ensures

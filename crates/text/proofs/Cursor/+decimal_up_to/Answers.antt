@@ -1,5 +1,4 @@
 -- `text::Cursor::decimal_up_to` meets its contract: the digits of the tenth part, then the last. Assumes nothing.
-use Rattle.text.specs.Text.{decimal_up_to}
 use Rattle.text.proofs.Digits.{more-digits}
 use Rattle.text.proofs.Writing.{then}
 use Rattle.text.proofs.Cursor.+decimal_up_to.Goals as goal
