@@ -58,8 +58,8 @@ fn print_turn(rt: &(impl Print + Eprint), t: Turn, sent: Sent) -> Sent {
     streams::send(rt, sent, &line, n)
 }
 
-// The model answers each step that is asked, until the search ends. It ends by itself, long before the count does; a
-// loop has to say so too.
+// The model answers each step that is asked, until the search ends. It ends by itself, long before the count does: a
+// proved loop has to have an end that the check can see.
 fn answer_all(rt: &(impl Print + Eprint), p: Plant, first: Turn, before: Sent) -> Sent {
     let mut t = first;
     let mut sent = before;

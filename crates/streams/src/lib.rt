@@ -70,7 +70,7 @@ fn write_out(rt: &impl Print, rest: &mut &[u8]) -> io::Result<()>
 }
 
 // Writes the first n bytes of a page to standard output. After a write that failed nothing more is written. A page that
-// has fewer is a loss too.
+// has fewer is a loss too, by `Sends`, so n stands beside the page.
 pub fn send(rt: &(impl Print + Eprint), sent: Sent, page: &[u8], n: usize) -> Sent
     ensures { Sends sent n result }
 {
