@@ -15,28 +15,21 @@ use std::rt::Env;
 #[derive(Clone, Copy)]
 struct Tally {
     sum: f64,
-    left: u64,
+    left: usize,
 }
 
 fn chosen() -> Options {
     let d = hagerzhang_parameters::defaults();
-    let p = d.params;
     Options {
         params: Params {
-            delta: p.delta,
-            sigma: p.sigma,
-            epsilon: p.epsilon,
-            theta: p.theta,
-            gamma: p.gamma,
-            eta: p.eta,
             start: 0.7,
+            ..d.params
         },
         way: Way::Bounded(Bounds {
             min: 0.0,
             max: 64.0,
         }),
-        budget: d.budget,
-        limit: d.limit,
+        ..d
     }
 }
 
@@ -57,13 +50,16 @@ fn curve_of(n: u32) -> Curve {
     }
 }
 
-// The search that starts, or one that is over where it is refused.
-fn search_of(f0: f64, s0: f64) -> Search {
-    match hagerzhang::start(chosen(), f0, s0) {
-        Started::Began(r) => r.search,
+// The search that starts on the curve, or one that is over where it is refused.
+fn search_on(c: Curve) -> Search {
+    let options = chosen();
+    let f0 = c.value(0.0);
+    let s0 = c.slope(0.0);
+    match hagerzhang::start(options, f0, s0) {
+        Started::Began(turn) => turn.search,
         Started::NoSearch(_) => Search {
             setup: Setup {
-                options: chosen(),
+                options,
                 f0,
                 s0,
                 level: f0,
@@ -77,58 +73,49 @@ fn search_of(f0: f64, s0: f64) -> Search {
 // One search on the curve n: its state stays in locals, and `answer` is called at one place.
 fn play(n: u32, from: Tally) -> Tally {
     let c = curve_of(n);
-    let mut s = search_of(c.value(0.0), c.slope(0.0));
+    let mut s = search_on(c);
     let mut x = 0.0;
     let mut sum = from.sum;
-    let mut left = from.left;
-    while 0 < left {
-        left -= 1;
-        let r = hagerzhang::answer(s, c.value(x), c.slope(x));
-        let o = r.outcome;
-        s = r.search;
-        match o {
+    for left in (0..from.left).rev() {
+        let turn = hagerzhang::answer(s, c.value(x), c.slope(x));
+        s = turn.search;
+        let end = match turn.outcome {
             Outcome::Ask(y) => {
                 x = y;
-                sum = sum + y;
+                sum += y;
+                continue;
             }
-            Outcome::Stop(_, y) => return Tally { sum: sum + y, left },
-            Outcome::Limit(y) => return Tally { sum: sum + y, left },
-            Outcome::Refused(_) => return Tally {
-                sum: sum + 1.0,
-                left,
-            },
-        }
+            Outcome::Stop(_, y) | Outcome::Limit(y) => y,
+            Outcome::Refused(_) => 1.0,
+        };
+        return Tally {
+            sum: sum + end,
+            left,
+        };
     }
-    Tally { sum, left }
+    Tally { sum, left: 0 }
 }
 
-fn next(n: u32) -> u32 {
-    if n < curves::COUNT { n + 1 } else { 1 }
-}
-
-fn run(turns: u64) -> f64 {
-    let mut t = Tally {
+// Searches over the curves in turn. Each takes an answer at least, so there are no more of them than answers.
+fn run(turns: usize) -> f64 {
+    let mut tally = Tally {
         sum: 0.0,
         left: turns,
     };
-    let mut n = 1;
-    let mut searches = turns;
-    while 0 < searches {
-        t = play(n, t);
-        n = next(n);
-        if t.left == 0 {
+    for n in (1..=curves::COUNT).cycle().take(turns) {
+        if tally.left == 0 {
             break;
         }
-        searches -= 1;
+        tally = play(n, tally);
     }
-    t.sum
+    tally.sum
 }
 
 // An argument that is not empty and has at most four bytes asks for the long run.
 fn main(rt: HostRuntime) {
     let mut arg = [0u8; 4];
     let turns = match rt.arg(1, &mut arg) {
-        Ok(1..) => 50000000,
+        Ok(1..) => 50_000_000,
         _ => 1000,
     };
     let bits = numbers::bits_of(run(turns));

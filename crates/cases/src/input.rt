@@ -3,7 +3,6 @@
 ghost use Rattle.std.specs.Prelude.{◌≡◌, ◌≤◌, ◌<◌, length};
 
 use std::io::Read;
-use streams::Received;
 
 // The part in memory: the buffer begins with byte `base` of the input, and holds it up to `to`. What is before `from`
 // is served. The input has ended, or a read has failed, or more may come.
@@ -71,21 +70,21 @@ pub(crate) fn refilled(rt: &impl Eprint, input: &mut impl Read, buf: &mut [u8], 
     let base = place(w.base, w.from);
     let left = moved(buf, w.from, w.to);
     match streams::receive(rt, input, &mut buf[left..], place(base, left)) {
-        Received::Bytes(n) => Window {
+        Ok(Some(n)) => Window {
             base,
             from: 0,
             to: left + n,
             ended: false,
             lost: false,
         },
-        Received::End => Window {
+        Ok(None) => Window {
             base,
             from: 0,
             to: left,
             ended: true,
             lost: false,
         },
-        Received::Failed => Window {
+        Err(_) => Window {
             base,
             from: 0,
             to: left,

@@ -3,7 +3,7 @@
 -- other public function's contract is an equation of the result itself, `r ≡ ..`, and that is the field `equation`. One
 -- exception in form: `wire::from` and `fields::body` hand out a part of the slice that they are lent. Their contracts
 -- say all that can be read there.
-use Rattle.std.specs.Prelude.{ℕ, ◌≡◌, List, Float}
+use Rattle.std.specs.Prelude.{ℕ, ◌≡◌, List, Float, Option}
 use Rattle.text.specs.Text.{Writes}
 use Rattle.vectors.specs.declared.PointResult.{PointResult}
 use Rattle.vectors.specs.Told.{DotSaid, PointSaid}
@@ -15,7 +15,6 @@ use Rattle.curves.specs.declared.Curve.{Curve}
 use Rattle.curves.specs.Told.{NumberedSaid}
 use Rattle.jobs.specs.Reader.{ReadSaid}
 use Rattle.jobs.specs.Opening.{BeginSaid}
-use Rattle.play.specs.declared.Played.{Played}
 use Rattle.play.specs.declared.Written.{Written}
 use Rattle.play.specs.Playing.{PlaySaid}
 use Rattle.backtracking.specs.declared.Options.{Options as Trials}
@@ -23,6 +22,7 @@ use Rattle.backtracking.specs.declared.Backtracking.{Backtracking}
 use Rattle.backtracking.specs.Machine as trials
 use Rattle.hagerzhang_rules.specs.declared.Options.{Options}
 use Rattle.hagerzhang.specs.declared.state.Search.{Search}
+use Rattle.hagerzhang.specs.declared.state.Turn.{Turn}
 use Rattle.hagerzhang.specs.Machine.{StartSaid, AnswerSaid}
 use Rattle.answers.specs.Answers.{CheckedSaid as ListSaid}
 use Rattle.tables.specs.declared.Table.{Table}
@@ -50,7 +50,7 @@ pub record Determined : Type 1 where
       → PointSaid x0 alpha d held r now → PointSaid x0 alpha d held q later → (r ≡ q) × (now ≡ later)
   pub writing : (before : List ℕ) (at : ℕ) (text : List ℕ) (after later : List ℕ) (i j : ℕ)
       → Writes before at text after i → Writes before at text later j → (after ≡ later) × (i ≡ j)
-  pub play : (c : Curve) (from : Played) (turns : ℕ) (before : List ℕ) (at : ℕ) (r q : Written) (a b : List ℕ)
+  pub play : (c : Curve) (from : Option Turn) (turns : ℕ) (before : List ℕ) (at : ℕ) (r q : Written) (a b : List ℕ)
       → PlaySaid c from turns before at r a → PlaySaid c from turns before at q b → (r ≡ q) × (a ≡ b)
   -- what is told of an outcome, by which the rules speak of it, tells it whole
   pub outcome : (r q : Outcome) → told r ≡ told q → r ≡ q

@@ -30,27 +30,22 @@ fn print_refused(rt: &(impl Print + Eprint), number: u32, sent: Sent) -> Sent {
 // The line of what the search says, with its evaluations and iterations.
 fn print_turn(rt: &(impl Print + Eprint), t: Turn, sent: Sent) -> Sent {
     let s = t.search;
-    let outcome = t.outcome;
     let mut line = [0u8; 80];
-    let n = lines::outcome(&mut line, 0, outcome, s.evaluations, s.iterations);
+    let n = lines::outcome(&mut line, 0, t.outcome, s.evaluations, s.iterations);
     streams::send(rt, sent, &line, n)
 }
 
-// The model answers each step that is asked, until the search ends. It ends by itself; a loop has to say so too, and
-// counts its turns down.
+// The model answers each step that is asked, until the search ends. It ends by itself, long before the count does: a
+// proved loop has to have an end that the check can see.
 fn answer_all(rt: &(impl Print + Eprint), first: Turn, before: Sent) -> Sent {
     let mut t = first;
     let mut sent = before;
-    let mut turns: u32 = 4294967295;
-    while 0 < turns {
-        turns -= 1;
+    for _ in 0..u32::MAX {
         sent = print_turn(rt, t, sent);
-        let s = t.search;
-        let outcome = t.outcome;
-        let Outcome::Ask(x) = outcome else {
-            return sent;
+        let Outcome::Ask(x) = t.outcome else {
+            break;
         };
-        t = backtracking::answer(s, power(x), slope(x));
+        t = backtracking::answer(t.search, power(x), slope(x));
     }
     sent
 }
@@ -71,20 +66,23 @@ fn try_condition(rt: &(impl Print + Eprint), condition: Condition, sent: Sent) -
 }
 
 fn main(rt: HostRuntime) {
-    let none = streams::nothing_sent();
-    let a = try_condition(&rt, Condition::Armijo { c: 0.0001 }, none);
-    let b = try_condition(&rt, Condition::Goldstein { c: 0.25 }, a);
-    let wolfe = Condition::Wolfe {
-        c1: 0.0001,
-        c2: 0.9,
-    };
-    let c = try_condition(&rt, wolfe, b);
-    let strong = Condition::StrongWolfe {
-        c1: 0.0001,
-        c2: 0.1,
-    };
-    let d = try_condition(&rt, strong, c);
-    // out of range (3), and not a number (2)
-    let e = try_condition(&rt, Condition::Wolfe { c1: 0.9, c2: 0.1 }, d);
-    try_condition(&rt, Condition::Armijo { c: 0.0 / 0.0 }, e);
+    let conditions = [
+        Condition::Armijo { c: 0.0001 },
+        Condition::Goldstein { c: 0.25 },
+        Condition::Wolfe {
+            c1: 0.0001,
+            c2: 0.9,
+        },
+        Condition::StrongWolfe {
+            c1: 0.0001,
+            c2: 0.1,
+        },
+        // out of range (3), and not a number (2)
+        Condition::Wolfe { c1: 0.9, c2: 0.1 },
+        Condition::Armijo { c: f64::NAN },
+    ];
+    let mut sent = streams::nothing_sent();
+    for condition in conditions {
+        sent = try_condition(&rt, condition, sent);
+    }
 }

@@ -4,7 +4,7 @@
 #![tactic(auto)]
 
 use hagerzhang::{Started, Turn};
-use hagerzhang_rules::{Bounds, Options, Way};
+use hagerzhang_rules::{Bounds, Options, Params, Way};
 use runs::Outcome;
 use streams::Sent;
 
@@ -19,17 +19,19 @@ struct Plant {
     dead_above: f64,
 }
 
-// The power that both take at the flow x: a NaN where the sensor is dead.
-fn power(p: Plant, x: f64) -> f64 {
-    if p.dead_above < x {
-        return 0.0 / 0.0;
+impl Plant {
+    // The power that both take at the flow x: a NaN where the sensor is dead.
+    fn power(self, x: f64) -> f64 {
+        if self.dead_above < x {
+            return f64::NAN;
+        }
+        self.chiller / (x + 0.5) + self.pump * (x * x * x)
     }
-    p.chiller / (x + 0.5) + p.pump * (x * x * x)
-}
 
-// How the power changes with the flow.
-fn slope(p: Plant, x: f64) -> f64 {
-    3.0 * p.pump * (x * x) - p.chiller / ((x + 0.5) * (x + 0.5))
+    // How the power changes with the flow.
+    fn slope(self, x: f64) -> f64 {
+        3.0 * self.pump * (x * x) - self.chiller / ((x + 0.5) * (x + 0.5))
+    }
 }
 
 // ---- the search
@@ -37,49 +39,43 @@ fn slope(p: Plant, x: f64) -> f64 {
 // The defaults, with the flows between which the plant may run, and no flow as the first guess.
 fn options() -> Options {
     let d = hagerzhang_parameters::defaults();
-    let mut params = d.params;
-    params.start = 0.0;
     Options {
-        params,
+        params: Params {
+            start: 0.0,
+            ..d.params
+        },
         way: Way::Bounded(Bounds { min: 0.0, max: 2.0 }),
-        budget: d.budget,
-        limit: d.limit,
+        ..d
     }
 }
 
 // The line of what the search says, with its evaluations and finished iterations. `sent` goes from line to line: behind
 // a write that failed nothing more is written.
 fn print_turn(rt: &(impl Print + Eprint), t: Turn, sent: Sent) -> Sent {
-    let s = t.search;
-    let outcome = t.outcome;
-    let kept = hagerzhang::held(s);
+    let iterations = hagerzhang::held(t.search).iterations();
     let mut line = [0u8; 80];
-    let n = lines::outcome(&mut line, 0, outcome, s.evaluations, kept.iterations());
+    let n = lines::outcome(&mut line, 0, t.outcome, t.search.evaluations, iterations);
     streams::send(rt, sent, &line, n)
 }
 
-// The model answers each step that is asked, until the search ends. It ends by itself; a loop has to say so too, and
-// counts its turns down.
+// The model answers each step that is asked, until the search ends. It ends by itself, long before the count does: a
+// proved loop has to have an end that the check can see.
 fn answer_all(rt: &(impl Print + Eprint), p: Plant, first: Turn, before: Sent) -> Sent {
     let mut t = first;
     let mut sent = before;
-    let mut turns: u32 = 4294967295;
-    while 0 < turns {
-        turns -= 1;
+    for _ in 0..u32::MAX {
         sent = print_turn(rt, t, sent);
-        let s = t.search;
-        let outcome = t.outcome;
-        let Outcome::Ask(x) = outcome else {
-            return sent;
+        let Outcome::Ask(x) = t.outcome else {
+            break;
         };
-        t = hagerzhang::answer(s, power(p, x), slope(p, x));
+        t = hagerzhang::answer(t.search, p.power(x), p.slope(x));
     }
     sent
 }
 
 // A start may be refused too: then there is no search, and the number says why.
 fn optimise(rt: &(impl Print + Eprint), p: Plant, sent: Sent) -> Sent {
-    match hagerzhang::start(options(), power(p, 0.0), slope(p, 0.0)) {
+    match hagerzhang::start(options(), p.power(0.0), p.slope(0.0)) {
         Started::Began(first) => answer_all(rt, p, first, sent),
         Started::NoSearch(refusal) => {
             let mut line = [0u8; 80];
@@ -96,9 +92,8 @@ fn main(rt: HostRuntime) {
         dead_above: 100.0,
     };
     let dead = Plant {
-        chiller: 2.0,
-        pump: 1.0,
         dead_above: 0.75,
+        ..sound
     };
     let sent = optimise(&rt, sound, streams::nothing_sent());
     optimise(&rt, dead, sent);

@@ -8,6 +8,7 @@ use Prim.Native.Nat.{ℕ, zero, suc, ◌+◌, ◌≤◌, ◌<◌}
 use native.Mathlib.Omega.{arith}
 use lib.ListN.{length}
 use lib.Ieee.{Float, is_nan}
+use Rattle.std.specs.Prelude.{Option, Some, None}
 use Rattle.floats.proofs.Branches.{by_cases}
 use Rattle.runs.specs.Outcomes.{asks, ends, numbered, told}
 use Rattle.runs.specs.Asking.{Rest, Ended, ask, end, respond, shown, reported, once_told}
@@ -29,8 +30,6 @@ use Rattle.hagerzhang.specs.Machine.{answer_by, answer_of}
 use Rattle.hagerzhang.specs.Meaning.{report, meaning, meant}
 use Rattle.hagerzhang.proofs.Answering.{setup-kept, one-more-if-finite, reports}
 use Rattle.hagerzhang.proofs.Bridge.{follows}
-use Rattle.play.specs.declared.Played.{Played}
-use Rattle.play.specs.declared.Played.TheVariants.{Pending, Done}
 use Rattle.play.specs.Telling.{Said, telling, said_line, text_of}
 use Rattle.play.specs.Playing.{said_of, answered_by, answered_of, said_in, left_after, chunks, left_after_chunks}
 
@@ -71,9 +70,9 @@ module _ (s : Setup) (fits : Fits s) (c : Curve) where
     pub few : e + m < 4294967295
 
   -- what a play has still to tell
-  pub data Matches : Played → List Said → Type 0 where
-    at-over : Matches Done []
-    at-step : {e m : ℕ} {t : Turn} {r : Rest Report} → Stands e m t r → Matches (Pending t) (telling c e r)
+  pub data Matches : Option Turn → List Said → Type 0 where
+    at-over : Matches None []
+    at-step : {e m : ℕ} {t : Turn} {r : Rest Report} → Stands e m t r → Matches (Some t) (telling c e r)
 
   -- one turn tells the first of it, and leaves the others
   record Told-on (t : Turn) (l : List Said) : Type 0 where
@@ -129,7 +128,7 @@ module _ (s : Setup) (fits : Fits s) (c : Curve) where
             few = by_cases (λ i. e + i + m < 4294967295) (answer_finite f g) (λ b. omega arith) (λ b. omega arith);
           }
 
-      goes_on : answered_of c t ≡ Pending t'
+      goes_on : answered_of c t ≡ Some t'
       unfolding answered_by
       goes_on = rw asked
 
@@ -142,11 +141,11 @@ module _ (s : Setup) (fits : Fits s) (c : Curve) where
       asks-turn = record {
         others = telling c e' (then f g);
         first = ap (λ (a : Said). a ∷ telling c e' (then f g)) says_so;
-        matches = subst (λ (p : Played). Matches p (telling c e' (then f g))) (sym goes_on) (at-step stands-next);
+        matches = subst (λ (p : Option Turn). Matches p (telling c e' (then f g))) (sym goes_on) (at-step stands-next);
       }
 
     module _ (o : Ended Report) (at : Stands e m t (end o)) where
-      stops_at : (q : Outcome) → told q ≡ ends (numbered o.by) → answered_by c t.search q ≡ Done
+      stops_at : (q : Outcome) → told q ≡ ends (numbered o.by) → answered_by c t.search q ≡ None
       unfolding answered_by
       stops_at (Ask x) h = absurd (asks-not-ends x (numbered o.by) (sym h))
       stops_at (Stop v x) h = refl
@@ -170,7 +169,7 @@ module _ (s : Setup) (fits : Fits s) (c : Curve) where
       end-turn = record {
         others = [];
         first = ap (λ (a : Said). a ∷ []) ends_so;
-        matches = subst (λ (p : Played). Matches p []) (sym (stops_at t.outcome is-told)) at-over;
+        matches = subst (λ (p : Option Turn). Matches p []) (sym (stops_at t.outcome is-told)) at-over;
       }
 
   turn : (e m : ℕ) (t : Turn) (r : Rest Report) → EndsWithin answer_finite m r → Stands e m t r
@@ -179,21 +178,21 @@ module _ (s : Setup) (fits : Fits s) (c : Curve) where
   turn e (suc m) t (ask k x then) (at-ask only more) at = asks-turn e m t k x then at more
   turn e zero t (ask k x then) held at = elim held [ ]
 
-  turn-of : (t : Turn) (l : List Said) → Matches (Pending t) l → Told-on t l
+  turn-of : (t : Turn) (l : List Said) → Matches (Some t) l → Told-on t l
   turn-of t l (at-step {e} {m} {r = r} at) = turn e m t r at.within at
 
   -- n turns tell the first n outcomes at most, and leave the others
-  pub record Goes (n : ℕ) (p : Played) (l : List Said) : Type 0 where
+  pub record Goes (n : ℕ) (p : Option Turn) (l : List Said) : Type 0 where
     pub others : List Said
     pub split : l ≡ said_in n c p ++ others
     pub matches : Matches (left_after n c p) others
 
-  pub plays : (n : ℕ) (p : Played) (l : List Said) → Matches p l → Goes n p l
+  pub plays : (n : ℕ) (p : Option Turn) (l : List Said) → Matches p l → Goes n p l
   unfolding said_in left_after
   plays zero p l h = record { others = l; split = refl; matches = h }
-  plays (suc n) Done [] at-over = record { others = []; split = refl; matches = at-over }
-  plays (suc n) Done (_ ∷ _) h = elim h [ ]
-  plays (suc n) (Pending t) l h =
+  plays (suc n) None [] at-over = record { others = []; split = refl; matches = at-over }
+  plays (suc n) None (_ ∷ _) h = elim h [ ]
+  plays (suc n) (Some t) l h =
       let z = turn-of t l h in
       let more = plays n (answered_of c t) z.others z.matches in
       record {
@@ -202,28 +201,28 @@ module _ (s : Setup) (fits : Fits s) (c : Curve) where
         matches = more.matches;
       }
 
-  nothing_left : (l : List Said) → Matches Done l → l ≡ []
+  nothing_left : (l : List Said) → Matches None l → l ≡ []
   nothing_left [] at-over = refl
   nothing_left (_ ∷ _) held = elim held [ ]
 
   -- it is over after as many turns as there is to tell
-  pub over-in-time : (n : ℕ) (p : Played) (l : List Said) → Matches p l → length l ≤ n → left_after n c p ≡ Done
+  pub over-in-time : (n : ℕ) (p : Option Turn) (l : List Said) → Matches p l → length l ≤ n → left_after n c p ≡ None
   unfolding left_after
-  over-in-time zero Done [] at-over h = refl
-  over-in-time zero Done (_ ∷ _) m h = elim m [ ]
-  over-in-time zero (Pending t) l m h =
+  over-in-time zero None [] at-over h = refl
+  over-in-time zero None (_ ∷ _) m h = elim m [ ]
+  over-in-time zero (Some t) l m h =
       let z = turn-of t l m in
       let k : length l ≡ suc (length z.others) = ap length z.first in
       absurd (omega arith)
-  over-in-time (suc n) Done [] at-over h = refl
-  over-in-time (suc n) Done (_ ∷ _) m h = elim m [ ]
-  over-in-time (suc n) (Pending t) l m h =
+  over-in-time (suc n) None [] at-over h = refl
+  over-in-time (suc n) None (_ ∷ _) m h = elim m [ ]
+  over-in-time (suc n) (Some t) l m h =
       let z = turn-of t l m in
       let k : length l ≡ suc (length z.others) = ap length z.first in
       over-in-time n (answered_of c t) z.others z.matches (omega arith)
 
   -- chunk after chunk: once the play is over, they are the whole text
-  pub chunks-told : (n k : ℕ) (p : Played) (l : List Said) → Matches p l → left_after_chunks c n k p ≡ Done
+  pub chunks-told : (n k : ℕ) (p : Option Turn) (l : List Said) → Matches p l → left_after_chunks c n k p ≡ None
       → chunks c n k p ≡ text_of l
   unfolding chunks left_after_chunks
   chunks-told n zero p l h e = sym (ap text_of (nothing_left l (rw e at h)) ∙ no_text)

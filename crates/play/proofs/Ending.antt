@@ -6,6 +6,7 @@ use mathlib.Core.List.{List, [], ◌∷◌}
 use Prim.Native.Nat.{ℕ, zero, suc, ◌+◌, ◌<◌}
 use native.Mathlib.Omega.{arith}
 use lib.ListN.{length, length-append}
+use Rattle.std.specs.Prelude.{Option, Some, None}
 use Rattle.refusals.specs.Results.{value}
 use Rattle.runs.specs.Asking.{Rest, ask, end, once_told}
 use Rattle.hagerzhang_rules.specs.declared.Setup.{Setup}
@@ -16,20 +17,18 @@ use Rattle.hagerzhang.specs.Machine.{Turn}
 use Rattle.hagerzhang.specs.Meaning.{meant}
 use Rattle.jobs.specs.Opening.{setup_for, begin_of}
 use Rattle.jobs.proofs.Begins.{begun}
-use Rattle.play.specs.declared.Played.{Played}
-use Rattle.play.specs.declared.Played.TheVariants.{Pending, Done}
 use Rattle.play.specs.Telling.{Said, telling}
 use Rattle.play.specs.Playing.{said_in, left_after}
 use Rattle.play.proofs.ByRules.{Fits, Matches, at-over, at-step, plays}
 use Rattle.play.proofs.Output.{begun-fits, begun-plays, told_by}
 
 -- how many outcomes there are to tell
-pub to_tell : Curve → Played → ℕ
-to_tell c Done = 0
-to_tell c (Pending t) = length (telling c 0 (meant t.search))
+pub to_tell : Curve → Option Turn → ℕ
+to_tell c None = 0
+to_tell c (Some t) = length (telling c 0 (meant t.search))
 
 -- a play that the rules match
-pub record Playable (c : Curve) (p : Played) : Type 0 where
+pub record Playable (c : Curve) (p : Option Turn) : Type 0 where
   pub setup : Setup
   pub fits : Fits setup
   pub outcomes : List Said
@@ -49,22 +48,22 @@ rest-count : (c : Curve) (e : ℕ) (r : Rest Report) → length (telling c 0 (on
 rest-count c e (end o) = unfold once_told telling in refl
 rest-count c e (ask k x then) = unfold once_told in same_count c 0 e (ask k x then)
 
-counted : (s : Setup) (fits : Fits s) (c : Curve) (p : Played) (l : List Said) → Matches s fits c p l
+counted : (s : Setup) (fits : Fits s) (c : Curve) (p : Option Turn) (l : List Said) → Matches s fits c p l
     → to_tell c p ≡ length l
 unfolding to_tell
-counted s fits c Done [] at-over = refl
-counted s fits c Done (_ ∷ _) held = elim held [ ]
-counted s fits c (Pending t) l (at-step {e} {r = r} at) =
+counted s fits c None [] at-over = refl
+counted s fits c None (_ ∷ _) held = elim held [ ]
+counted s fits c (Some t) l (at-step {e} {r = r} at) =
     ap (λ (q : Rest Report). length (telling c 0 q)) at.leaves ∙ rest-count c e r
 
-says-one : (c : Curve) (n : ℕ) (t : Turn) → 0 < n → 0 < length (said_in n c (Pending t))
+says-one : (c : Curve) (n : ℕ) (t : Turn) → 0 < n → 0 < length (said_in n c (Some t))
 unfolding said_in
 says-one c zero t h = absurd (omega arith)
 says-one c (suc n) t h = omega arith
 
 -- from p, which goes on with t, n turns lead to q
-module _ (c : Curve) (n : ℕ) (p q : Played) (t : Turn) (m : Playable c p) (e : p ≡ Pending t)
-    (f : q ≡ left_after n c (Pending t)) where
+module _ (c : Curve) (n : ℕ) (p q : Option Turn) (t : Turn) (m : Playable c p) (e : p ≡ Some t)
+    (f : q ≡ left_after n c (Some t)) where
   leads : q ≡ left_after n c p
   leads = f ∙ ap (left_after n c) (sym e)
 
@@ -85,7 +84,7 @@ module _ (c : Curve) (n : ℕ) (p q : Played) (t : Turn) (m : Playable c p) (e :
       omega arith
 
 -- what a job begins is such a play
-pub begun-playable : (bytes : List ℕ) (c : Curve) (t : Turn) → begin_of bytes ≡ value (c, t) → Playable c (Pending t)
+pub begun-playable : (bytes : List ℕ) (c : Curve) (t : Turn) → begin_of bytes ≡ value (c, t) → Playable c (Some t)
 begun-playable bytes c t h =
     let b = begun bytes c t h in
     record {

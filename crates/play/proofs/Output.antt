@@ -9,6 +9,7 @@ use Prim.Native.Nat.{ℕ, zero, suc, ◌+◌, ◌*◌, ◌≤◌, suc-le-suc}
 use native.Mathlib.Omega.{arith}
 use lib.ListN.{length}
 use lib.Ieee.{Float}
+use Rattle.std.specs.Prelude.{Some, None}
 use Rattle.floats.proofs.Order.{finite→real}
 use Rattle.refusals.specs.Results.{Result, value, refused, Row, refuse◌else◌}
 use Rattle.runs.specs.Asking.{Rest, ask, end}
@@ -31,7 +32,6 @@ use Rattle.jobs.specs.declared.Job.{Job}
 use Rattle.jobs.specs.Reader.{job_of}
 use Rattle.jobs.specs.Opening.{f0_of, s0_of, setup_for, job_rows, begun_by, begin_of}
 use Rattle.jobs.proofs.Begins.{Begins, begun}
-use Rattle.play.specs.declared.Played.TheVariants.{Pending, Done}
 use Rattle.play.specs.Telling.{Said, telling, text_of}
 use Rattle.play.specs.Playing.{left_after, chunks, left_after_chunks}
 use Rattle.play.specs.Output.{search_text, or_refused, job_text, output_of}
@@ -90,10 +90,10 @@ module _ (bytes : List ℕ) (c : Curve) (t : Turn) (b : Begins bytes c t) where
   abbrev pub told_by : List Said
   told_by = telling c 0 (hager_zhang (setup_for j))
 
-  pub begun-plays : Matches (setup_for j) begun-fits c (Pending t) told_by
+  pub begun-plays : Matches (setup_for j) begun-fits c (Some t) told_by
   unfolding begun-fits
   begun-plays =
-      subst (λ (u : Turn). Matches (setup_for j) begun-fits c (Pending u) told_by) b.same_step
+      subst (λ (u : Turn). Matches (setup_for j) begun-fits c (Some u) told_by) b.same_step
       (at-step (stands-first j.options (f0_of j) (s0_of j) b.accepted c))
 
   is-output : output_of bytes ≡ text_of told_by
@@ -115,17 +115,17 @@ module _ (bytes : List ℕ) (c : Curve) (t : Turn) (h : begin_of bytes ≡ value
   b = begun bytes c t h
 
   -- once its play is over, what was written, chunk after chunk, is 01's text for the job
-  pub output-told : (n k : ℕ) → left_after_chunks c n k (Pending t) ≡ Done → chunks c n k (Pending t) ≡ output_of bytes
+  pub output-told : (n k : ℕ) → left_after_chunks c n k (Some t) ≡ None → chunks c n k (Some t) ≡ output_of bytes
   output-told n k over =
-      chunks-told (setup_for b.job) (begun-fits bytes c t b) c n k (Pending t) (told_by bytes c t b)
+      chunks-told (setup_for b.job) (begun-fits bytes c t b) c n k (Some t) (told_by bytes c t b)
       (begun-plays bytes c t b) over
       ∙ sym (is-output bytes c t b)
 
   -- and it is over after as many turns as there are lines
-  pub over-at-last : (n : ℕ) → 30030004 ≤ n → left_after n c (Pending t) ≡ Done
+  pub over-at-last : (n : ℕ) → 30030004 ≤ n → left_after n c (Some t) ≡ None
   over-at-last n enough =
       let few = few-lines bytes c t b in
-      over-in-time (setup_for b.job) (begun-fits bytes c t b) c n (Pending t) (told_by bytes c t b)
+      over-in-time (setup_for b.job) (begun-fits bytes c t b) c n (Some t) (told_by bytes c t b)
       (begun-plays bytes c t b) (omega arith)
 
 -- ---- one that does not

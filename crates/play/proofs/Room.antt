@@ -9,13 +9,13 @@ use lib.ListN.{length, take, set, length-set, length-append}
 use lib.Seq.{take-suc-set, append_snoc}
 use native.Mathlib.Numerals.{add-one}
 use borrow.Author.Tests.{lt-ltb}
+use Rattle.std.specs.Prelude.{Option, Some, None}
 use Rattle.floats.proofs.Branches.{by_cases}
 use Rattle.runs.specs.Outcomes.{Word, met, wolfe, approximate, stop, limit, refusal, Told, asks, ends}
 use Rattle.curves.specs.declared.Curve.{Curve}
+use Rattle.hagerzhang.specs.declared.state.Turn.{Turn}
 use Rattle.text.specs.Text.{Page, page, put, write, Writes, decimal_up_to}
 use Rattle.lines.specs.Lines.{verdict_text, outcome_line}
-use Rattle.play.specs.declared.Played.{Played}
-use Rattle.play.specs.declared.Played.TheVariants.{Pending, Done}
 use Rattle.play.specs.Telling.{Said, text_of}
 use Rattle.play.specs.Playing.{answered_of, said_in}
 
@@ -47,11 +47,11 @@ short-text (s ∷ l) =
     let m = short-text l in
     simp length-append (omega arith)
 
-few-said : (n : ℕ) (c : Curve) (p : Played) → length (said_in n c p) ≤ n
+few-said : (n : ℕ) (c : Curve) (p : Option Turn) → length (said_in n c p) ≤ n
 unfolding said_in
 few-said zero c p = omega arith
-few-said (suc n) c Done = omega arith
-few-said (suc n) c (Pending t) = let h = few-said n c (answered_of c t) in omega arith
+few-said (suc n) c None = omega arith
+few-said (suc n) c (Some t) = let h = few-said n c (answered_of c t) in omega arith
 
 -- ---- a text for which there is room is written whole
 written : (held : List ℕ) (at : ℕ) (t : List ℕ) → at + length t ≤ length held
@@ -74,7 +74,8 @@ written held at (b ∷ t) room =
     (rw n (more.0, more.1 ∙ ap (λ (l : List ℕ). l ++ t) first ∙ append_snoc (take at held) b t))
 
 -- what is written from the front of the program's buffer is the text of these turns, with nothing cut off
-pub whole-lines : (c : Curve) (p : Played) (n : ℕ) (before after : List ℕ) (at : ℕ) → n ≤ 512 → 65536 ≤ length before
+pub whole-lines : (c : Curve) (p : Option Turn) (n : ℕ) (before after : List ℕ) (at : ℕ) → n ≤ 512
+    → 65536 ≤ length before
     → Writes before 0 (text_of (said_in n c p)) after at → take at after ≡ text_of (said_in n c p)
 whole-lines c p n before after at few room e =
     let text = text_of (said_in n c p) in

@@ -12,17 +12,11 @@ use curves::Curve;
 use hagerzhang::Turn;
 use runs::Outcome;
 
-// A play goes on with a turn whose outcome is still to be told, or everything is told.
-#[derive(Clone, Copy)]
-pub enum Played {
-    Pending(Turn),
-    Done,
-}
-
-// What is left of a play, and the place behind what was written.
+// What is left of a play: the turn whose outcome is still to be told, or none where everything is told. And the place
+// behind what was written.
 #[derive(Clone, Copy)]
 pub struct Written {
-    pub played: Played,
+    pub played: Option<Turn>,
     pub at: usize,
 }
 
@@ -30,41 +24,33 @@ pub struct Written {
 fn line(out: &mut [u8], at: usize, t: Turn) -> usize
     ensures { Writes out.old at (said_line (said_of t)) out.new result }
 {
-    let s = t.search;
-    let o = t.outcome;
-    let e = s.evaluations;
-    let kept = hagerzhang::held(s);
-    lines::outcome(out, at, o, e, kept.iterations())
+    let iterations = hagerzhang::held(t.search).iterations();
+    lines::outcome(out, at, t.outcome, t.search.evaluations, iterations)
 }
 
 // The curve answers a step that is asked; any other outcome is the last.
-fn answered(c: Curve, t: Turn) -> Played
+#[tactic(auto, unfolding(crate::specs::Playing::answered_by))]
+fn answered(c: Curve, t: Turn) -> Option<Turn>
     ensures { result ≡ answered_of c t }
 {
-    let s = t.search;
-    let o = t.outcome;
-    match o {
-        Outcome::Ask(x) => Played::Pending(hagerzhang::answer(s, c.value(x), c.slope(x))),
-        Outcome::Stop(_, _) => Played::Done,
-        Outcome::Limit(_) => Played::Done,
-        Outcome::Refused(_) => Played::Done,
+    match t.outcome {
+        Outcome::Ask(x) => Some(hagerzhang::answer(t.search, c.value(x), c.slope(x))),
+        Outcome::Stop(..) | Outcome::Limit(_) | Outcome::Refused(_) => None,
     }
 }
 
 // Plays on for so many turns at most: each writes a line at a place of the buffer, as much as there is room for.
-pub fn play(c: Curve, from: Played, turns: u32, out: &mut [u8], at: usize) -> Written
+pub fn play(c: Curve, from: Option<Turn>, turns: u32, out: &mut [u8], at: usize) -> Written
     ensures { PlaySaid c from turns out.old at result out.new }
 {
     let mut played = from;
     let mut next = at;
-    let mut left = turns;
-    while 0 < left {
-        let Played::Pending(t) = played else {
-            return Written { played, at: next };
+    for _ in 0..turns {
+        let Some(t) = played else {
+            break;
         };
         next = line(out, next, t);
         played = answered(c, t);
-        left -= 1;
     }
     Written { played, at: next }
 }

@@ -2,50 +2,26 @@
 
 #![tactic(auto)]
 
-ghost use Rattle.std.specs.Prelude.{◌≡◌, ◌≤◌, length};
-ghost use Rattle.play.specs.Playing.{left_after};
 ghost use Rattle.play.proofs.Ending.{Playable};
 
 use curves::Curve;
 use hagerzhang::Turn;
 use jobs::Opened;
-use play::Played;
-use streams::{Filled, Sent};
-
-// What is left of the play after some turns, and what has become of their lines.
-#[derive(Clone, Copy)]
-struct Spoken {
-    played: Played,
-    sent: Sent,
-}
-
-// The lines of some turns.
-fn tell_some(rt: &(impl Print + Eprint), c: Curve, t: Turn, sent: Sent) -> Spoken
-    ensures { result.played ≡ left_after 512 c (Played.Pending t) }
-{
-    let mut page = [0u8; 65536];
-    let w = play::play(c, Played::Pending(t), 512, &mut page, 0);
-    let n = w.at;
-    let played = w.played;
-    Spoken {
-        played,
-        sent: streams::send(rt, sent, &page, n),
-    }
-}
 
 // The lines of the whole play, as far as standard output takes them. It ends: each turn leaves less to tell.
-fn tell(rt: &(impl Print + Eprint), c: Curve, t: Turn)
-    requires { Playable c (Played.Pending t) }
+fn tell(rt: &(impl Print + Eprint), c: Curve, first: Turn)
+    requires { Playable c (Some first) }
 {
-    let mut played = Played::Pending(t);
+    let mut page = [0u8; 65536];
     let mut sent = streams::nothing_sent();
-    while !sent.lost {
-        let Played::Pending(next) = played else {
+    let mut left = Some(first);
+    while let Some(t) = left {
+        let told = play::play(c, Some(t), 512, &mut page, 0);
+        sent = streams::send(rt, sent, &page, told.at);
+        if sent.lost {
             return;
-        };
-        let spoken = tell_some(rt, c, next, sent);
-        played = spoken.played;
-        sent = spoken.sent;
+        }
+        left = told.played;
     }
 }
 
@@ -55,10 +31,8 @@ fn refuse(rt: &(impl Print + Eprint), number: u32) {
     streams::send(rt, streams::nothing_sent(), &page, n);
 }
 
-fn run(rt: &(impl Print + Eprint), job: &[u8], n: usize)
-    requires { n ≤ length job.now }
-{
-    match jobs::begin(&job[..n]) {
+fn run(rt: &(impl Print + Eprint), job: &[u8]) {
+    match jobs::begin(job) {
         Opened::Begun(c, t) => tell(rt, c, t),
         Opened::NoSearch(k) => refuse(rt, k.number()),
         Opened::Unreadable => refuse(rt, 9),
@@ -69,8 +43,7 @@ fn run(rt: &(impl Print + Eprint), job: &[u8], n: usize)
 // fails is no end of the input: what was read before it is no job.
 fn main(rt: HostRuntime) {
     let mut job = [0u8; 56];
-    match streams::fill(&rt, &mut rt.stdin(), &mut job) {
-        Filled::With(n) => run(&rt, &job, n),
-        Filled::Unread => {}
+    if let Ok(n) = streams::fill(&rt, &mut rt.stdin(), &mut job) {
+        run(&rt, &job[..n]);
     }
 }

@@ -1,10 +1,7 @@
 -- What a program's standard input and output may do. A system call's answer is not determined; what follows from it is.
-use Rattle.std.specs.Prelude.{ℕ, ◌+◌, ◌<◌, ◌≤◌, min, ◌≡◌, false, cond, ltb}
+use Rattle.std.specs.Prelude.{ℕ, ◌+◌, ◌<◌, ◌≤◌, min, ◌≡◌, false, cond, ltb, Option, Some, None, Result, Ok, Err}
 use Rattle.streams.specs.declared.Sent.{Sent}
-use Rattle.streams.specs.declared.Received.{Received}
-use Rattle.streams.specs.declared.Received.TheVariants.{Bytes, End, Failed}
-use Rattle.streams.specs.declared.Filled.{Filled}
-use Rattle.streams.specs.declared.Filled.TheVariants.{With, Unread}
+use Rattle.streams.specs.declared.Lost.{Lost}
 
 abbrev pub nothing_sent : Sent
 nothing_sent = record { bytes = 0; lost = false }
@@ -25,12 +22,12 @@ pub record Sends (sent : Sent) (n : ℕ) (r : Sent) : Type 0 where
   pub comes-to : r ≡ sent_of sent n done
 
 -- a read into n bytes: some of them, at most all; or the end; or it fails
-abbrev pub Receives : ℕ → Received → Type 0
-Receives n (Bytes k) = (0 < k) × (k ≤ n)
-Receives n End = Unit {0}
-Receives n Failed = Unit {0}
+abbrev pub Receives : ℕ → Result (Option ℕ) Lost → Type 0
+Receives n (Ok (Some k)) = (0 < k) × (k ≤ n)
+Receives n (Ok None) = Unit {0}
+Receives n (Err lost) = Unit {0}
 
 -- reads until n bytes are there or the input ends, or one fails
-abbrev pub Fills : ℕ → Filled → Type 0
-Fills n (With k) = k ≤ n
-Fills n Unread = Unit {0}
+abbrev pub Fills : ℕ → Result ℕ Lost → Type 0
+Fills n (Ok k) = k ≤ n
+Fills n (Err lost) = Unit {0}

@@ -4,28 +4,22 @@
 
 #![tactic(auto)]
 
-ghost use Rattle.std.specs.Prelude.{◌≡◌, ◌≤◌, min, length, take};
-ghost use Rattle.streams.specs.Streams.{nothing_sent, counted, Sends, Receives, Fills};
+ghost use Rattle.std.specs.Prelude.{◌≡◌, ◌≤◌, length};
+ghost use Rattle.streams.specs.Streams.{nothing_sent, Sends, Receives, Fills};
 
 use std::io::{Read, Write};
 use std::{io, str};
 
 // ---- what is said of a loss
 
-// n, or all that the page holds where it holds fewer.
-fn within(n: usize, page: &[u8]) -> usize
-    ensures value { result ≡ min n (length page.now) }
-    ensures prefix_len { (result ≤ length page.now) × (result ≡ length (take result page.now)) }
-{
-    if n < page.len() { n } else { page.len() }
-}
+// A read has failed, and standard error says so.
+#[derive(Clone, Copy, Debug)]
+pub struct Lost;
 
 // The system's words in the text of an error, which ends with its number: `Broken pipe (os error 32)`.
 fn words(text: &str) -> &str {
-    match text.rsplit_once(" (os error ") {
-        Some((words, _)) => words,
-        None => text,
-    }
+    text.rsplit_once(" (os error ")
+        .map_or(text, |(words, _)| words)
 }
 
 // `LOST standard output after 512 bytes: No space left on device`: the stream, the bytes that went well, and the
@@ -43,7 +37,8 @@ fn say_lost(rt: &impl Eprint, stream: &str, bytes: u64, error: Option<io::Error>
 
 // ---- standard output
 
-// What has become of standard output: the bytes that it took, and whether a write has failed.
+// What has become of standard output: the bytes that it took, and whether a write has failed. It is no `Result`: both
+// say something in each case, and `Sends` has them both. After a loss `send` keeps the count, and writes nothing.
 #[derive(Clone, Copy)]
 pub struct Sent {
     pub bytes: u64,
@@ -59,128 +54,74 @@ pub fn nothing_sent() -> Sent
     }
 }
 
-fn counted_with(bytes: u64, n: usize) -> u64
-    ensures { result ≡ counted bytes n }
+// Writes from the front of the bytes, in as many writes as it takes, up to one that fails or takes no byte. What was
+// not taken stays in `rest`.
+fn write_out(rt: &impl Print, rest: &mut &[u8]) -> io::Result<()>
+    ensures { length rest.new.now ≤ length rest.old.now }
 {
-    let more = n as u64;
-    if more <= 18446744073709551615 - bytes {
-        return bytes + more;
-    }
-    18446744073709551615
-}
-
-// How many bytes were taken, and why no more, where a write failed.
-#[derive(Clone, Copy)]
-struct Written {
-    taken: usize,
-    error: Option<io::Error>,
-}
-
-// One write. Where it fails it takes no byte.
-fn write_some(rt: &impl Print, s: &[u8]) -> Written
-    ensures { result.taken ≤ length s.now }
-{
-    match rt.write_some(s) {
-        Ok(taken) => Written { taken, error: None },
-        Err(e) => Written {
-            taken: 0,
-            error: Some(e),
-        },
-    }
-}
-
-// As many writes as it takes for the first n bytes, up to one that fails.
-fn write_first(rt: &impl Print, page: &[u8], n: usize) -> Written
-    requires { n ≤ length page.now }
-    ensures { result.taken ≤ n }
-{
-    let mut done = 0;
-    while done < n {
-        let written = write_some(rt, &page[done..n]);
-        let k = written.taken;
+    while !rest.is_empty() {
+        let k = rt.write_some(rest)?;
         if k == 0 {
-            return Written {
-                taken: done,
-                error: written.error,
-            };
+            break;
         }
-        done += k;
+        *rest = &rest[k..];
     }
-    Written {
-        taken: done,
-        error: None,
-    }
+    Ok(())
 }
 
 // Writes the first n bytes of a page to standard output. After a write that failed nothing more is written. A page that
-// has fewer is a loss too.
+// has fewer is a loss too, by `Sends`, so n stands beside the page.
 pub fn send(rt: &(impl Print + Eprint), sent: Sent, page: &[u8], n: usize) -> Sent
     ensures { Sends sent n result }
 {
     if sent.lost {
         return sent;
     }
-    let there = within(n, page);
-    let written = write_first(rt, page, there);
-    let done = written.taken;
-    let bytes = counted_with(sent.bytes, done);
-    if done < n {
-        say_lost(rt, "standard output", bytes, written.error);
-        return Sent { bytes, lost: true };
+    let there = n.min(page.len());
+    let mut rest = &page[..there];
+    let error = write_out(rt, &mut rest).err();
+    let done = there - rest.len();
+    let bytes = sent.bytes.saturating_add(done as u64);
+    let lost = done < n;
+    if lost {
+        say_lost(rt, "standard output", bytes, error);
     }
-    Sent { bytes, lost: false }
+    Sent { bytes, lost }
 }
 
 // ---- standard input
 
-#[derive(Clone, Copy)]
-pub enum Received {
-    // so many bytes, at the front of the buffer
-    Bytes(usize),
-    // the input has ended
-    End,
-    // the read failed
-    Failed,
-}
-
-// One read, of as many bytes as there are and the buffer has room for. `before` bytes were read before. The input is
-// `rt.stdin()`, which keeps no bytes back.
-pub fn receive(rt: &impl Eprint, input: &mut impl Read, buf: &mut [u8], before: u64) -> Received
+// One read, of as many bytes as there are and the buffer has room for: how many, at the front of the buffer, or none
+// where the input has ended. `before` bytes were read before. The input is `rt.stdin()`, which keeps no bytes back.
+pub fn receive(
+    rt: &impl Eprint,
+    input: &mut impl Read,
+    buf: &mut [u8],
+    before: u64,
+) -> Result<Option<usize>, Lost>
     ensures { Receives (length buf.old) result }
 {
     match input.read(buf) {
-        Ok(n) => {
-            if n == 0 {
-                return Received::End;
-            }
-            Received::Bytes(n)
-        }
+        Ok(0) => Ok(None),
+        Ok(n) => Ok(Some(n)),
         Err(e) => {
             say_lost(rt, "standard input", before, Some(e));
-            Received::Failed
+            Err(Lost)
         }
     }
 }
 
-#[derive(Clone, Copy)]
-pub enum Filled {
-    // so many bytes, at the front of the buffer: all that it holds, or all that the input has left
-    With(usize),
-    // a read failed
-    Unread,
-}
-
-// Reads until the buffer is full or the input ends, in as many reads as it takes.
-pub fn fill(rt: &impl Eprint, input: &mut impl Read, buf: &mut [u8]) -> Filled
+// Reads until the buffer is full or the input ends, in as many reads as it takes: how many bytes are at the front of
+// the buffer, all that it holds or all that the input has left.
+pub fn fill(rt: &impl Eprint, input: &mut impl Read, buf: &mut [u8]) -> Result<usize, Lost>
     ensures { Fills (length buf.old) result }
 {
     let mut n = 0;
     while n < buf.len() {
-        match receive(rt, input, &mut buf[n..], n as u64) {
-            Received::Bytes(k) => n += k,
-            Received::End => return Filled::With(n),
-            Received::Failed => return Filled::Unread,
-        }
+        let Some(k) = receive(rt, input, &mut buf[n..], n as u64)? else {
+            break;
+        };
+        n += k;
     }
-    Filled::With(n)
+    Ok(n)
 }

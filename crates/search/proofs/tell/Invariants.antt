@@ -2,8 +2,8 @@
 use Rattle.play.proofs.Ending.{to_tell, Playable}
 use Rattle.search.proofs.tell.Given as goal
 
-abbrev pub invariant-loop-sent : goal.invariant-loop-sent
-invariant-loop-sent g l = Playable l.c l.played
+abbrev pub invariant-loop-left : goal.invariant-loop-left
+invariant-loop-left g l = Playable l.c l.left
 
-abbrev pub decreases-loop-sent : goal.decreases-loop-sent
-decreases-loop-sent g l = to_tell l.c l.played
+abbrev pub decreases-loop-left : goal.decreases-loop-left
+decreases-loop-left g l = to_tell l.c l.left

@@ -1,5 +1,0 @@
--- `example_backtracking::answer_all` ends: the measure is the turns that are left.
-use Rattle.example_backtracking.proofs.answer_all.Given as goal
-
-abbrev pub decreases-loop-turns : goal.decreases-loop-turns
-decreases-loop-turns g l = l.turns
