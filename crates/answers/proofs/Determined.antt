@@ -6,8 +6,8 @@ use Rattle.floats.proofs.Determined.{determined}
 use Rattle.refusals.specs.Results.{Result, value, refused}
 use Rattle.answers.specs.declared.Refusal.{Refusal}
 use Rattle.answers.specs.declared.Refusal.TheVariants.{Lengths, NoSuchSearch}
-use Rattle.answers.specs.declared.Checked.{Checked}
-use Rattle.answers.specs.declared.Checked.TheVariants.{Sound, Refused}
+use Rattle.std.specs.Prelude.{Ok, Err}
+use Rattle.std.specs.Prelude as Rust
 use Rattle.answers.specs.Answers.{refusal_number, checked_told, CheckedSaid}
 
 -- the numbers tell the refusals apart
@@ -19,18 +19,18 @@ unfolding with_number
 number-back Lengths = refl
 number-back NoSuchSearch = refl
 
-read : Result Unit → Checked
-read (value u) = Sound
-read (refused n) = Refused (with_number n)
+read : Result Unit → Rust.Result Unit Refusal
+read (value u) = Ok tt
+read (refused n) = Err (with_number n)
 
-back : (r : Checked) → read (checked_told r) ≡ r
+back : (r : Rust.Result Unit Refusal) → read (checked_told r) ≡ r
 unfolding read
-back Sound = refl
-back (Refused k) = ap Refused (number-back k)
+back (Ok u) = refl
+back (Err k) = ap Err (number-back k)
 
 -- what is told of a list tells all
-pub told-apart : (r q : Checked) → checked_told r ≡ checked_told q → r ≡ q
+pub told-apart : (r q : Rust.Result Unit Refusal) → checked_told r ≡ checked_told q → r ≡ q
 told-apart r q e = determined checked_told read back r q e
 
-pub check-determined : (n : ℕ) (xs : List Float) (r q : Checked) → CheckedSaid n xs r → CheckedSaid n xs q → r ≡ q
+pub check-determined : (n : ℕ) (xs : List Float) (r q : Rust.Result Unit Refusal) → CheckedSaid n xs r → CheckedSaid n xs q → r ≡ q
 check-determined n xs r q said said' = told-apart r q (said ∙ sym said')

@@ -1,35 +1,43 @@
--- A list of answers, read in place: the answer that begins at i, and the search that it changes. Assumes nothing.
-use Rattle.std.proofs.Common.{◌≡◌, ℕ, zero, suc, ◌+◌, ◌-◌, ◌%◌, ◌<◌, ◌≤◌, true, false, ◌&&◌, ltb, List, [], ◌∷◌}
-use Rattle.std.proofs.Common.{◌++◌, length, get_or, drop, set, refl, ap, le_of_suc-le-suc, not-suc-le-zero}
-use Rattle.std.proofs.Common.{arith, length-drop, drop-cons, ltb-true, le-ltb, lt-ltb}
-use lib.Ieee.{Float}
+-- A list of answers, read as arrays of three floats, and the search that an answer changes. Assumes nothing.
+use Rattle.std.proofs.Common.{◌≡◌, ℕ, zero, suc, ◌%◌, ◌<◌, ◌≤◌, true, false, ◌&&◌, ltb, List, [], ◌∷◌}
+use Rattle.std.proofs.Common.{◌++◌, length, get_or, set, refl, ap, le_of_suc-le-suc, not-suc-le-zero}
+use Rattle.std.proofs.Common.{arith, ltb-true, le-ltb, lt-ltb}
+use Rattle.std.proofs.Common.{map, ◌/◌, Bool, cond, Some, None, ltb-false, sym, ◌∙◌}
+use Rattle.std.specs.Prelude.{MatchOption}
+use Rattle.std.specs.List.{list_all}
+use Rattle.std.specs.Simd.{first_chunks}
+use lib.Ieee.{Float, nan}
 use Rattle.floats.proofs.Branches.{by_cases, both, and_first, and_second}
-use Rattle.runs.specs.Asking.{Machine}
-use Rattle.answers.specs.Many.{Answer, changed, given_all}
-use Rattle.answers.specs.Answers.{search_number, answers_in, size_of, all_named}
+use Rattle.answers.specs.Many.{Answer, changed}
+use Rattle.answers.specs.Answers.{search_number, search_named, answers_in, size_of, all_named}
 
--- ---- the answer at i
+-- ---- the answers as arrays of three floats
+abbrev pub answer_of : List Float → Answer
+answer_of a = (search_number (get_or a 0 nan), (get_or a 1 nan, get_or a 2 nan))
 
-pub answer_at : (xs : List Float) (i : ℕ) (d : Float) → i + 2 < length xs
-    → answers_in (drop i xs)
-    ≡ (search_number (get_or xs i d), (get_or xs (i + 1) d, get_or xs (i + 2) d)) ∷ answers_in (drop (i + 3) xs)
+third : (m : ℕ) → suc (suc (suc m)) / 3 ≡ suc (m / 3)
+third m = omega arith
+
+pub answers-of-chunks : (xs : List Float) → answers_in xs ≡ map answer_of (first_chunks 3 (length xs / 3) xs)
 unfolding answers_in
-answer_at xs i d h =
-    let one : i + 1 ≡ suc i = omega arith in
-    let two : i + 2 ≡ suc (suc i) = omega arith in
-    let three : i + 3 ≡ suc (suc (suc i)) = omega arith in
-    let rest : (j : ℕ) → j < length xs → drop j xs ≡ get_or xs j d ∷ drop (suc j) xs = λ j l. drop-cons xs j d l in
-    rw (one, two, three, rest i (omega arith), rest (suc i) (omega arith), rest (suc (suc i)) (omega arith))
+answers-of-chunks [] = refl
+answers-of-chunks (x ∷ []) = refl
+answers-of-chunks (x ∷ f ∷ []) = refl
+answers-of-chunks (x ∷ f ∷ g ∷ xs) =
+    rw (third (length xs)) (ap (λ ys. (search_number x, (f, g)) ∷ ys) (answers-of-chunks xs))
 
-few : (xs : List Float) → length xs < 3 → answers_in xs ≡ []
-unfolding answers_in
-few [] h = refl
-few (x ∷ []) h = refl
-few (x ∷ f ∷ []) h = refl
-few (x ∷ f ∷ g ∷ xs) h = absurd (let n : suc (suc (suc (length xs))) < 3 = h in omega arith)
+-- whether an array, an answer, names a search below n
+abbrev pub names_below : ℕ → List Float → Bool
+names_below n a = ltb (search_number (get_or a 0 nan)) n
 
-pub none_left : (xs : List Float) (i : ℕ) → length xs - i < 3 → answers_in (drop i xs) ≡ []
-none_left xs i h = few (drop i xs) (rw (length-drop i xs) h)
+all-named-of : (n : ℕ) (cs : List (List Float)) → list_all (names_below n) cs ≡ all_named n (map answer_of cs)
+unfolding all_named
+all-named-of n [] = refl
+all-named-of n (c ∷ cs) = ap (λ b. names_below n c && b) (all-named-of n cs)
+
+pub named-in-chunks : (n : ℕ) (xs : List Float)
+    → list_all (names_below n) (first_chunks 3 (length xs / 3) xs) ≡ all_named n (answers_in xs)
+named-in-chunks n xs = all-named-of n _ ∙ ap (all_named n) (sym (answers-of-chunks xs))
 
 -- ---- the search with the number i, in place
 pub changed-set : {S : Type 0} (t : List S) (i : ℕ) (h : S → S) (d : S) → i < length t
@@ -38,6 +46,12 @@ unfolding changed
 changed-set [] i h d l = absurd (not-suc-le-zero l)
 changed-set (s ∷ t) zero h d l = refl
 changed-set (s ∷ t) (suc i) h d l = ap (λ u. s ∷ u) (changed-set t i h d (le_of_suc-le-suc l))
+
+pub changed-beyond : {S : Type 0} (t : List S) (i : ℕ) (h : S → S) → length t ≤ i → changed i h t ≡ t
+unfolding changed
+changed-beyond [] i h l = refl
+changed-beyond (s ∷ t) zero h l = absurd (not-suc-le-zero l)
+changed-beyond (s ∷ t) (suc i) h l = ap (λ u. s ∷ u) (changed-beyond t i h (le_of_suc-le-suc l))
 
 pub length-changed : {S : Type 0} (t : List S) (i : ℕ) (h : S → S) → length (changed i h t) ≡ length t
 unfolding changed
@@ -75,56 +89,21 @@ pub size_fits : (n : ℕ) → size_of n ≤ 32
 unfolding size_of
 size_fits n = by_cases (λ (k : ℕ). k ≤ 32) (ltb n 32) (λ t. let l = ltb-true n 32 t in omega arith) (λ t. omega arith)
 
--- ---- what is named among few is named among more
-pub named-among-more : (n m : ℕ) → n ≤ m → (ys : List Answer) → all_named n ys ≡ true → all_named m ys ≡ true
-unfolding all_named
-named-among-more n m h [] e = refl
-named-among-more n m h (a ∷ ys) e =
-    let here : a.0 < n = ltb-true _ _ (and_first (ltb a.0 n) (all_named n ys) e) in
-    both (ltb a.0 m) (all_named m ys) (lt-ltb a.0 m (omega arith))
-    (named-among-more n m h ys (and_second (ltb a.0 n) (all_named n ys) e))
+-- ---- whether a search is named
 
--- ---- whether all that begin at i or later are named, by the one at i
-module _ (n : ℕ) (xs : List Float) (i : ℕ) (d : Float) where
-  pub unnamed : i + 2 < length xs → n ≤ search_number (get_or xs i d) → all_named n (answers_in (drop i xs)) ≡ false
-  unfolding all_named
-  unnamed h k = rw (answer_at xs i d h, le-ltb _ _ k)
+-- a number that x names is below 32, so below n only where it is below the size of n
+within-size : (n s : ℕ) → s < 32 → ltb s n ≡ ltb s (size_of n)
+unfolding size_of
+within-size n s h =
+    by_cases (λ (k : ℕ). ltb s n ≡ ltb s k) (ltb n 32) (λ t. refl)
+    (λ f. let l = ltb-false n 32 f in lt-ltb s n (omega arith) ∙ sym (lt-ltb s 32 h))
 
-  pub named_step : i + 2 < length xs → search_number (get_or xs i d) < n
-      → all_named n (answers_in (drop i xs)) ≡ all_named n (answers_in (drop (i + 3) xs))
-  unfolding all_named
-  named_step h k = rw (answer_at xs i d h, lt-ltb _ _ k)
+below-by : (n s : ℕ) (b t : Bool) → ltb s 32 ≡ t
+    → MatchOption (cond t (Some s) None) (b ≡ false) (λ k. b ≡ ltb k n) → b ≡ ltb s (size_of n)
+below-by n s b true e m = m ∙ within-size n s (ltb-true s 32 e)
+below-by n s b false e m =
+    let h = ltb-false s 32 e in let l = size_fits n in m ∙ sym (le-ltb s (size_of n) (omega arith))
 
-  pub all_seen : length xs - i < 3 → all_named n (answers_in (drop i xs)) ≡ true
-  unfolding all_named
-  all_seen h = rw (none_left xs i h)
-
--- ---- the answer at i, where all are named
-module _ (n : ℕ) (xs : List Float) (i : ℕ) (d : Float) (h : i + 2 < length xs)
-    (e : all_named n (answers_in (drop i xs)) ≡ true) where
-  one-named : (ltb (search_number (get_or xs i d)) n && all_named n (answers_in (drop (i + 3) xs))) ≡ true
-  unfolding all_named
-  one-named = rw (answer_at xs i d h) at e
-
-  pub named_here : search_number (get_or xs i d) < n
-  named_here = ltb-true _ _ (and_first _ (all_named n (answers_in (drop (i + 3) xs))) one-named)
-
-  pub named-later : all_named n (answers_in (drop (i + 3) xs)) ≡ true
-  named-later = and_second (ltb (search_number (get_or xs i d)) n) _ one-named
-
--- ---- the answer at i is given, in place
-module _ {S : Type 0} (m : Machine S) where
-  pub given-at : (t : List S) (xs : List Float) (i : ℕ) (d : Float) (z : S) → i + 2 < length xs
-      → search_number (get_or xs i d) < length t
-      → given_all m t (answers_in (drop i xs))
-      ≡ given_all m (set t (search_number (get_or xs i d))
-      (m.next (get_or t (search_number (get_or xs i d)) z) (get_or xs (i + 1) d) (get_or xs (i + 2) d)))
-      (answers_in (drop (i + 3) xs))
-  given-at t xs i d z h l =
-      rw (answer_at xs i d h)
-      (ap (λ (u : List S). given_all m u (answers_in (drop (i + 3) xs)))
-      (changed-set t (search_number (get_or xs i d)) (λ s. m.next s (get_or xs (i + 1) d) (get_or xs (i + 2) d)) z l))
-
-  pub all-given : (t : List S) (xs : List Float) (i : ℕ) → length xs - i < 3
-      → given_all m t (answers_in (drop i xs)) ≡ t
-  all-given t xs i h = rw (none_left xs i h)
+pub is-below : (n : ℕ) (x : Float) (b : Bool) → MatchOption (search_named x) (b ≡ false) (λ k. b ≡ ltb k n)
+    → b ≡ ltb (search_number x) (size_of n)
+is-below n x b m = below-by n (search_number x) b (ltb (search_number x) 32) refl m

@@ -1,14 +1,11 @@
--- What `check` tells, read both ways: a sound list has whole answers, each of which names a search; and whatever stands
--- behind the rows comes where the list is sound. Assumes nothing.
-use Rattle.std.proofs.Common.{◌≡◌, ℕ, ◌%◌, true, not, eqb, List, ◌++◌, length, sym, refl, ap, ◌∙◌}
+-- What the rows of a list say, read both ways: a sound list has whole answers, each of which names a search. Assumes
+-- nothing.
+use Rattle.std.proofs.Common.{◌≡◌, ℕ, ◌%◌, true, not, eqb, List, ◌++◌, length, ap}
 use Rattle.std.proofs.Common.{arith, length-append, eq-eqb, eqb-true}
 use lib.Ieee.{Float}
 use borrow.Author.Tests.{not-false}
-use Rattle.refusals.specs.Results.{Result, value, refused, refuse◌else◌}
-use Rattle.refusals.proofs.Refusals.{Passed, all, and, passed, alike}
-use Rattle.answers.specs.declared.Checked.{Checked}
-use Rattle.answers.specs.declared.Checked.TheVariants.{Sound}
-use Rattle.answers.specs.Answers.{answers_in, size_of, all_named, list_rows, checked_told, CheckedSaid}
+use Rattle.refusals.proofs.Refusals.{Passed, all, and}
+use Rattle.answers.specs.Answers.{answers_in, size_of, all_named, list_rows}
 use Rattle.answers.proofs.Lists.{answers-of-both, named-in-both, named-in-each}
 
 abbrev pub Sound-list : ℕ → List Float → Type 0
@@ -41,16 +38,3 @@ each-passes n xs zs whole p =
     let all_of = b.0 in
     let named = named-in-each (size_of n) (answers_in xs) (answers_in zs) (rw (answers-of-both xs zs whole) at b).1 in
     (passes n xs (whole, named.0), passes n zs (omega arith, named.1))
-
-pub sound-says : (n : ℕ) (xs : List Float) → CheckedSaid n xs Sound → Sound-list n xs
-sound-says n xs e = passed-says n xs (passed (list_rows n xs) tt tt (sym e)).0
-
--- what stands behind the rows
-unfoldable pub behind : {A : Type 0} → A → Result Unit → Result A
-behind a (value u) = value a
-behind a (refused k) = refused k
-
-pub by-check : {A : Type 0} (n : ℕ) (xs : List Float) (k : Checked) (a : A) → CheckedSaid n xs k
-    → (refuse (list_rows n xs) else a) ≡ behind a (checked_told k)
-unfolding behind
-by-check n xs k a e = sym (ap (behind a) e ∙ alike (behind a) (λ r. r) (λ k. refl) tt a refl (list_rows n xs))

@@ -4,11 +4,12 @@
 #![tactic(auto)]
 
 ghost use Rattle.std.specs.Prelude.{◌≡◌};
-ghost use Rattle.answers.specs.Answers.{search_number, answers_in, size_of, all_named};
-ghost use Rattle.answers.specs.Answers.{refusal_number, CheckedSaid};
+ghost use Rattle.answers.specs.Answers.{search_named, refusal_number, CheckedSaid};
+
+use std::num::saturating_f64_to_u32;
 
 // Why a list is refused, in the order in which the reasons are tried.
-#[derive(Clone, Copy)]
+#[derive(Clone, Copy, Debug, PartialEq, Eq)]
 pub enum Refusal {
     // 1: its length is no multiple of 3
     Lengths,
@@ -28,61 +29,27 @@ impl Refusal {
     }
 }
 
-#[derive(Clone, Copy)]
-pub enum Checked {
-    // every answer in it names a search
-    Sound,
-    Refused(Refusal),
-}
-
-// The number that x is equal to, of 0 to 31; or 32, which no search has.
-pub fn number(x: f64) -> u32
-    ensures { result ≡ search_number x }
+// The search that x names: the number of 0 to 31 that x is equal to, if there is one.
+pub fn number(x: f64) -> Option<u32>
+    ensures { result ≡ search_named x }
 {
-    if x > -1.0 {
-        if x < 18446744073709551616.0 {
-            let n = std::num::truncating_f64_to_u64(x);
-            if n < 32 {
-                let k = n as u32;
-                if x == k as f64 {
-                    return k;
-                }
-            }
-        }
-    }
-    32
+    let n = saturating_f64_to_u32(x);
+    (n < 32 && x == n as f64).then_some(n)
 }
 
-// How many searches there are where n are spoken of: never more than 32.
-fn count(n: u32) -> u32
-    ensures { result ≡ size_of n }
-{
-    if n < 32 { n } else { 32 }
-}
-
-// Whether every number in the list is below n.
-fn all_named(list: &[f64], n: u32) -> bool
-    ensures { result ≡ all_named n (answers_in list.now) }
-{
-    let mut i = 0;
-    while 2 < list.len() - i {
-        if n <= number(list[i]) {
-            return false;
-        }
-        i += 3;
-    }
-    true
-}
-
-// Whether the list may be given to n searches: looks at all of it, and gives nothing.
-pub fn check(list: &[f64], n: u32) -> Checked
+// Whether the list may be given to n searches, of which there are never more than 32: looks at all of it, and gives
+// nothing.
+pub fn check(list: &[f64], n: u32) -> Result<(), Refusal>
     ensures { CheckedSaid n list.now result }
 {
-    if list.len() % 3 != 0 {
-        return Checked::Refused(Refusal::Lengths);
+    let (answers, []) = list.as_chunks::<3>() else {
+        return Err(Refusal::Lengths);
+    };
+    let named = answers
+        .iter()
+        .all(|[x, ..]| number(*x).is_some_and(|k| k < n));
+    if !named {
+        return Err(Refusal::NoSuchSearch);
     }
-    if !all_named(list, count(n)) {
-        return Checked::Refused(Refusal::NoSuchSearch);
-    }
-    Checked::Sound
+    Ok(())
 }

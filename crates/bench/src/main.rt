@@ -4,7 +4,7 @@
 
 #![tactic(auto)]
 
-use curves::{Curve, Known};
+use curves::Curve;
 use hagerzhang::{Kept, Search, Stage, Started};
 use hagerzhang_rules::{Bounds, Options, Params, Setup, Way};
 use runs::{Evaluations, Outcome};
@@ -44,10 +44,7 @@ fn flat() -> Curve {
 }
 
 fn curve_of(n: u32) -> Curve {
-    match curves::numbered(n) {
-        Known::Found(c) => c,
-        Known::Unknown(_) => flat(),
-    }
+    curves::numbered(n).unwrap_or(flat())
 }
 
 // The search that starts on the curve, or one that is over where it is refused.

@@ -41,6 +41,16 @@ table =
 abbrev pub entry_of : ℕ → Float
 entry_of i = of_int binary64 (get_or table i (pos 0))
 
+-- a row of five is a curve
+abbrev pub curve_of_row : List ℤ → Curve
+curve_of_row r = record {
+  c0 = of_int binary64 (get_or r 0 (pos 0));
+  c1 = of_int binary64 (get_or r 1 (pos 0));
+  c2 = of_int binary64 (get_or r 2 (pos 0));
+  c3 = of_int binary64 (get_or r 3 (pos 0));
+  c4 = of_int binary64 (get_or r 4 (pos 0));
+}
+
 -- the curve whose c0 is the table's entry i
 abbrev pub curve_at : ℕ → Curve
 curve_at i = record {

@@ -2,8 +2,8 @@
 
 #![tactic(auto)]
 
-ghost use Rattle.std.specs.Prelude.{◌≡◌, ◌<◌};
-ghost use Rattle.curves.specs.Curves.{entry_of, curve_at, value_of, slope_of};
+ghost use Rattle.std.specs.Prelude.{◌≡◌};
+ghost use Rattle.curves.specs.Curves.{curve_of_row, value_of, slope_of};
 ghost use Rattle.curves.specs.Told.{NumberedSaid};
 
 use refusals::Refusal;
@@ -11,10 +11,16 @@ use refusals::Refusal;
 // How many there are. Their numbers count from 1.
 pub const COUNT: u32 = 8;
 
-// c0 to c4 of each, one curve after the other.
-const TABLE: [i8; 40] = [
-    1, -2, 1, 0, 0, 9, -6, 1, 0, 0, 0, -1, 0, 0, 0, 0, 0, 0, 0, 0, 0, -8, 0, 0, 1, 2, -3, 0, 1, 0,
-    5, -4, -2, 0, 1, 0, 1, -1, 0, 0,
+// c0 to c4 of each.
+const TABLE: [[i8; 5]; 8] = [
+    [1, -2, 1, 0, 0],
+    [9, -6, 1, 0, 0],
+    [0, -1, 0, 0, 0],
+    [0, 0, 0, 0, 0],
+    [0, -8, 0, 0, 1],
+    [2, -3, 0, 1, 0],
+    [5, -4, -2, 0, 1],
+    [0, 1, -1, 0, 0],
 ];
 
 #[derive(Clone, Copy)]
@@ -26,45 +32,29 @@ pub struct Curve {
     pub c4: f64,
 }
 
-#[derive(Clone, Copy)]
-pub enum Known {
-    Found(Curve),
-    Unknown(Refusal),
-}
-
 // 01: "small signed integers cast to f64 where nothing is lost".
-fn entry(i: usize) -> f64
-    requires { i < 40 }
-    ensures { result ≡ entry_of i }
-{
-    TABLE[i] as f64
-}
+impl From<[i8; 5]> for Curve {
+    ghost from_gives = { λ row c. c ≡ curve_of_row row };
 
-// The curve whose c0 is the table's entry i.
-fn curve_at(i: usize) -> Curve
-    requires { i < 36 }
-    ensures { result ≡ curve_at i }
-{
-    Curve {
-        c0: entry(i),
-        c1: entry(i + 1),
-        c2: entry(i + 2),
-        c3: entry(i + 3),
-        c4: entry(i + 4),
+    fn from([c0, c1, c2, c3, c4]: [i8; 5]) -> Curve {
+        Curve {
+            c0: f64::from(c0),
+            c1: f64::from(c1),
+            c2: f64::from(c2),
+            c3: f64::from(c3),
+            c4: f64::from(c4),
+        }
     }
 }
 
 // The curve with this number.
-pub fn numbered(n: u32) -> Known
+pub fn numbered(n: u32) -> Result<Curve, Refusal>
     ensures { NumberedSaid n result }
 {
-    if n < 1 {
-        return Known::Unknown(Refusal::OutOfRange);
+    match n {
+        1..=COUNT => Ok(Curve::from(TABLE[n as usize - 1])),
+        _ => Err(Refusal::OutOfRange),
     }
-    if COUNT < n {
-        return Known::Unknown(Refusal::OutOfRange);
-    }
-    Known::Found(curve_at((n as usize - 1) * 5))
 }
 
 impl Curve {

@@ -2,6 +2,7 @@
 use mathlib.Core.Path.{◌≡◌, refl, sym, ap, ap₂, ◌∙◌, subst}
 use mathlib.Core.List.{List, [], ◌∷◌, ◌++◌}
 use mathlib.Core.Option.{some, none-ne-some}
+use Rattle.std.specs.Prelude.{None}
 use Prim.Native.Nat.{ℕ, zero, suc, ◌+◌, ◌<◌, ◌≤◌}
 use native.Mathlib.Nat.{not-suc-le-zero, le_of_suc-le-suc}
 use native.Mathlib.Omega.{arith}
@@ -24,7 +25,6 @@ use Rattle.seats.specs.Seats.{seat_of, answered_by, answered_of}
 use Rattle.seats.specs.Seats as seats
 use Rattle.tables.specs.declared.Table.{Table}
 use Rattle.tables.specs.declared.Seated.{Seated}
-use Rattle.tables.specs.declared.Place.TheVariants.{Full}
 use Rattle.tables.specs.Tables.{searches_in, seated_of, given_to, scan_of}
 use Rattle.demands.specs.ManyAnswers.{own_answers, outcomes_in, Kind, last_told, Sits}
 use Rattle.demands.specs.ManyAnswers.{Since, at_once, a-list, a-search}
@@ -182,7 +182,7 @@ seats-stay t z e =
     by_cases (λ (r : Seated). length r.table.seats ≡ 32) (ltb t.size 32)
     (λ b. length-set t.seats t.size z ∙ e) (λ b. e)
 
-pub stays-full : (t : Table) (z : Seat) → 32 ≤ t.size → seated_of t z ≡ record { table = t; place = Full }
+pub stays-full : (t : Table) (z : Seat) → 32 ≤ t.size → seated_of t z ≡ record { table = t; place = None }
 unfolding seated_of
 stays-full t z h = rw (le-ltb t.size 32 h)
 

@@ -3,6 +3,7 @@
 -- public function is total by its contract; here is what each refuses, of vectors at which index, and what a refusal
 -- leaves.
 use Rattle.std.specs.Prelude.{ℕ, ◌≡◌, true, false, cond, not, ◌&&◌, List, [], ◌∷◌, eqb, length, Float, Some, None}
+use Rattle.std.specs.Prelude as Rust
 use Rattle.std.specs.Float.Ieee.Scale.{finite}
 use Rattle.floats.specs.Arithmetic.{◌<ᶠ◌}
 use Rattle.refusals.specs.Results.{value, refused, Row}
@@ -10,6 +11,7 @@ use Rattle.runs.specs.Outcomes.{Ending, refusal, Why, numbered, Told, asks, ends
 use Rattle.runs.specs.Asking.{Reply}
 use Rattle.runs.specs.Counters.{one_more}
 use Rattle.refusals.specs.Refusals.{given, TableBy, Table, refused_by}
+use Rattle.refusals.specs.declared.Refusal.{Refusal}
 use Rattle.runs.specs.Outcomes.{refusal_in}
 use Rattle.vectors.specs.declared.DotResult.{DotResult}
 use Rattle.vectors.specs.declared.PointResult.{PointResult}
@@ -23,7 +25,6 @@ use Rattle.conditions.specs.declared.Checked.TheVariants.{Fit}
 use Rattle.conditions.specs.Conditions.{condition_rows}
 use Rattle.conditions.specs.Told.{checked_told, CheckedSaid}
 use Rattle.curves.specs.declared.Curve.{Curve}
-use Rattle.curves.specs.declared.Known.{Known}
 use Rattle.curves.specs.Curves.{value_of, slope_of, curve_rows}
 use Rattle.curves.specs.Told.{curve_told, NumberedSaid}
 use Rattle.hagerzhang_rules.specs.declared.Point.{Point}
@@ -152,7 +153,8 @@ pub record Demand1 : Type 0 where
   -- a condition that is not refused is handed on as it came
   pub condition-kept : (C D : Condition) → CheckedSaid C (Fit D) → D ≡ C
   -- 3 of a curve's number
-  pub curve : (n : ℕ) (r : Known) → NumberedSaid n r → Table (refused_by (curve_told r)) (curve_rows n)
+  pub curve : (n : ℕ) (r : Rust.Result Curve Refusal) → NumberedSaid n r
+      → Table (refused_by (curve_told r)) (curve_rows n)
   -- 2, 3, 10, 4 of a start, with no search
   pub start : (o : Options) (f0 s0 : Float) (r : Started) → StartSaid o f0 s0 r
       → Table (refused_by (started_told r)) (start_rows o f0 s0)

@@ -1,7 +1,9 @@
 -- 02, request 6, "Many answers in one call", of every table and every list. What a list says and what it is refused by
 -- stand in answers/specs, Answers.antt and Many.antt; what it leaves of a table in tables/specs/Tables.antt; one answer
 -- to a search of either kind in seats/specs/Seats.antt. Here is what follows.
-use Rattle.std.specs.Prelude.{ℕ, ◌%◌, ◌≤◌, ◌<◌, ◌≡◌, true, List, [], ◌∷◌, ◌++◌, map, length, Float}
+use Rattle.std.specs.Prelude.{ℕ, ◌%◌, ◌≤◌, ◌<◌, ◌≡◌, true, List, [], ◌∷◌, ◌++◌, map, length, Float, Some, None, Err}
+use Rattle.std.specs.Prelude as Rust
+use Rattle.std.specs.Option.{unwrap_or}
 use Rattle.std.proofs.Math.Option.{some}
 use Rattle.std.proofs.Math.ListN.{get_elem?}
 use Rattle.std.specs.Float.{nan, binary64}
@@ -16,17 +18,15 @@ use Rattle.runs.specs.declared.Outcome.TheVariants.{Refused as RefusedOutcome}
 use Rattle.runs.specs.Outcomes.{Told, Ending, ends, told}
 use Rattle.runs.specs.Asking.{Reply, Machine, reached, played, shown, outcomes, reported, after}
 use Rattle.answers.specs.declared.Refusal.{Refusal}
-use Rattle.answers.specs.declared.Checked.{Checked}
-use Rattle.answers.specs.declared.Checked.TheVariants.{Refused}
 use Rattle.answers.specs.Many.{under, told_all, Laws}
-use Rattle.answers.specs.Answers.{search_number, answers_in, size_of, list_rows, checked_told, CheckedSaid}
+use Rattle.answers.specs.Answers.{search_number, search_named, answers_in, size_of, list_rows}
+use Rattle.answers.specs.Answers.{checked_told, CheckedSaid}
 use Rattle.seats.specs.declared.Held.{Held}
 use Rattle.seats.specs.declared.Held.TheVariants.{HagerZhang, Backtracks}
 use Rattle.seats.specs.declared.Seat.{Seat}
 use Rattle.seats.specs.Seats.{seat_of, answered_of, is_over, hager_zhang_seat, backtracking_seat}
 use Rattle.seats.specs.Seats as seats
 use Rattle.tables.specs.declared.Table.{Table}
-use Rattle.tables.specs.declared.Place.TheVariants.{At, Full}
 use Rattle.tables.specs.declared.Scanned.{Scanned}
 use Rattle.tables.specs.Tables.{searches_in, empty_table, seated_of, given_to, scan_of, table_told, ScanSaid}
 use Rattle.hagerzhang_rules.specs.declared.Options.{Options}
@@ -132,13 +132,15 @@ pub record ManyAnswers : Type 1 where
   pub named-only : (x : Float) → search_number x < 32 → x =ᶠ whole (search_number x) ≡ true
   pub minus-zero : search_number (neg 0ᶠ) ≡ 0
   pub nan-names-none : search_number nan ≡ 32
+  -- `number` tells the same as an Option
+  pub named-told : (x : Float) → unwrap_or (search_named x) 32 ≡ search_number x
   -- "Refusals: 1 .., 3 ..; both are checked over the whole list first and change nothing": of `check`, and of `scan`
-  pub check-refuses : (n : ℕ) (xs : List Float) (r : Checked) → CheckedSaid n xs r
+  pub check-refuses : (n : ℕ) (xs : List Float) (r : Rust.Result Unit Refusal) → CheckedSaid n xs r
       → RefusedByTable (refused_by (checked_told r)) (list_rows n xs)
   pub scan-refuses : (t : Table) (xs : List Float) (r : Scanned) → ScanSaid t xs r
       → RefusedByTable (refused_by (table_told r.checked r.table)) (list_rows t.size xs)
   pub untouched : (t : Table) (xs : List Float) (r : Scanned) → ScanSaid t xs r → (k : Refusal)
-      → r.checked ≡ Refused k → r.table ≡ t
+      → r.checked ≡ Err k → r.table ≡ t
   -- ---- "It shall equal the answers given one at a time in list order, a search named twice included."
 
   -- no answer, and one: it goes to the search that it names, or nothing is named and 3 is told
@@ -187,8 +189,8 @@ pub record ManyAnswers : Type 1 where
       → is_over (answered_of s f g).held ≡ true
   -- ---- a seat
 
-  pub seated-at : (t : Table) (s : Seat) → t.size < 32 → (seated_of t s).place ≡ At t.size
-  pub full : (t : Table) (s : Seat) → 32 ≤ t.size → seated_of t s ≡ record { table = t; place = Full }
+  pub seated-at : (t : Table) (s : Seat) → t.size < 32 → (seated_of t s).place ≡ Some t.size
+  pub full : (t : Table) (s : Seat) → 32 ≤ t.size → seated_of t s ≡ record { table = t; place = None }
   -- once for every kind of search: one that is added sits in the next seat, and goes on by its own answers, whatever is
   -- added and given to others
   pub sits-down : {S : Type 0} (kind : Machine S) (held : S → Held) (s : S) (o : Outcome) (t : Table) → t.size < 32

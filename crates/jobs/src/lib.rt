@@ -11,7 +11,7 @@ ghost use Rattle.refusals.specs.Results.{value};
 ghost use Rattle.jobs.specs.Opening.{over_curve, begun_by, opened_told, BeginSaid};
 ghost use Rattle.jobs.specs.Reader.{stands, found, behind, options_at, ReadSaid};
 
-use curves::{Curve, Known};
+use curves::Curve;
 use fields::Heading;
 use hagerzhang::{Started, Turn};
 use hagerzhang_rules::{Bounds, Options, Params, Way};
@@ -195,8 +195,8 @@ fn begun_by(j: Job) -> Opened
         return Opened::NoSearch(Refusal::SuppliedNotFinite);
     }
     match curves::numbered(j.curve) {
-        Known::Found(c) => over_curve(c, o),
-        Known::Unknown(k) => Opened::NoSearch(k),
+        Ok(c) => over_curve(c, o),
+        Err(k) => Opened::NoSearch(k),
     }
 }
 

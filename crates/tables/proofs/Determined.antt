@@ -4,23 +4,26 @@ use mathlib.Core.Path.{◌≡◌, refl, sym, ap, ap₂, ◌∙◌}
 use mathlib.Core.List.{List}
 use lib.Ieee.{Float}
 use Rattle.refusals.specs.Results.{Result, value, refused}
-use Rattle.answers.specs.declared.Checked.{Checked}
-use Rattle.answers.specs.declared.Checked.TheVariants.{Sound, Refused}
+use Rattle.std.specs.Prelude.{Ok, Err}
+use Rattle.std.specs.Prelude as Rust
+use Rattle.answers.specs.declared.Refusal.{Refusal}
 use Rattle.answers.specs.Answers.{checked_told}
 use Rattle.answers.proofs.Determined.{told-apart}
 use Rattle.tables.specs.declared.Table.{Table}
 use Rattle.tables.specs.declared.Scanned.{Scanned}
 use Rattle.tables.specs.Tables.{table_told, ScanSaid}
-use Rattle.tables.proofs.Scans.{made}
+
+abbrev made : Table → Rust.Result Unit Refusal → Scanned
+made t k = record { table = t; checked = k }
 
 forget : Result Table → Result Unit
 forget (value t) = value tt
 forget (refused n) = refused n
 
-forgotten : (k : Checked) (t : Table) → forget (table_told k t) ≡ checked_told k
+forgotten : (k : Rust.Result Unit Refusal) (t : Table) → forget (table_told k t) ≡ checked_told k
 unfolding forget
-forgotten Sound t = refl
-forgotten (Refused k) t = refl
+forgotten (Ok u) t = refl
+forgotten (Err k) t = refl
 
 pub scan-determined : (t : Table) (xs : List Float) (r q : Scanned) → ScanSaid t xs r → ScanSaid t xs q → r ≡ q
 scan-determined t xs r q said said' =

@@ -1,6 +1,7 @@
 -- 02, request 6: "the table of searches", up to 32 of them; how a search comes to sit in it, and what a list of answers
 -- leaves of it.
-use Rattle.std.specs.Prelude.{◌+◌, ◌≡◌, cond, List, ltb, replicate, set, take, Float}
+use Rattle.std.specs.Prelude.{◌+◌, ◌≡◌, cond, List, ltb, replicate, set, take, Float, Some, None, Ok, Err}
+use Rattle.std.specs.Prelude as Rust
 use Rattle.floats.specs.Arithmetic.{0ᶠ}
 use Rattle.refusals.specs.Results.{Result, value, refused, refuse◌else◌}
 use Rattle.refusals.specs.declared.Refusal.TheVariants.{AlreadyOver}
@@ -10,14 +11,12 @@ use Rattle.conditions.specs.declared.Condition.TheVariants.{Armijo}
 use Rattle.backtracking.specs.declared.Backtracking.{Backtracking}
 use Rattle.backtracking.specs.declared.Stage.TheVariants.{Over}
 use Rattle.answers.specs.Many.{Answer, given_all}
-use Rattle.answers.specs.declared.Checked.{Checked}
-use Rattle.answers.specs.declared.Checked.TheVariants.{Sound, Refused}
+use Rattle.answers.specs.declared.Refusal.{Refusal}
 use Rattle.answers.specs.Answers.{answers_in, size_of, list_rows, refusal_number}
 use Rattle.seats.specs.declared.Seat.{Seat}
 use Rattle.seats.specs.declared.Held.TheVariants.{Backtracks}
 use Rattle.seats.specs.Seats.{seat_of, machine}
 use Rattle.tables.specs.declared.Table.{Table}
-use Rattle.tables.specs.declared.Place.TheVariants.{At, Full}
 use Rattle.tables.specs.declared.Seated.{Seated}
 use Rattle.tables.specs.declared.Scanned.{Scanned}
 
@@ -48,8 +47,8 @@ empty_table = record { seats = replicate 32 vacant_seat; size = 0 }
 unfoldable pub seated_of : Table → Seat → Seated
 seated_of t s =
     cond (ltb t.size 32)
-    (record { table = record { seats = set t.seats t.size s; size = t.size + 1 }; place = At t.size })
-    (record { table = t; place = Full })
+    (record { table = record { seats = set t.seats t.size s; size = t.size + 1 }; place = Some t.size })
+    (record { table = t; place = None })
 
 -- "It shall equal the answers given one at a time in list order, a search named twice included."
 abbrev pub given_to : Table → List Answer → Table
@@ -65,9 +64,9 @@ table_after (refused n) was = was
 
 -- ---- what `scan` tells, a refusal by its number, and what its contract says of a result
 
-abbrev pub table_told : Checked → Table → Result Table
-table_told Sound t = value t
-table_told (Refused k) t = refused (refusal_number k)
+abbrev pub table_told : Rust.Result Unit Refusal → Table → Result Table
+table_told (Ok u) t = value t
+table_told (Err k) t = refused (refusal_number k)
 
 abbrev pub ScanSaid : Table → List Float → Scanned → Type 0
 ScanSaid t xs r = (table_told r.checked r.table ≡ scan_of t xs) × (r.table ≡ table_after (scan_of t xs) t)

@@ -2,17 +2,18 @@
 
 #![tactic(auto)]
 
-ghost use Rattle.std.specs.Prelude.{◌≡◌, true, ◌%◌, length};
-ghost use Rattle.answers.specs.Answers.{answers_in, all_named};
+ghost use Rattle.std.specs.Prelude.{◌≡◌};
+ghost use Rattle.answers.specs.Answers.{answers_in};
 ghost use Rattle.tables.specs.Tables.{idle_search, vacant_seat, empty_table, seated_of, given_to, ScanSaid};
 
-use answers::Checked;
 use backtracking::{Backtracking, Options, Setup, Stage};
 use conditions::Condition;
 use refusals::Refusal;
 use runs::{Evaluations, Iterations, Outcome};
 use seats::{Held, Seat};
 
+// An array with a size beside it: there is no heap, and the theorems of ManyAnswers read both, also of a table that was
+// made by hand and says that it has more than its seats.
 #[derive(Clone, Copy)]
 pub struct Table {
     pub seats: [Seat; 32],
@@ -20,25 +21,19 @@ pub struct Table {
     pub size: u32,
 }
 
-// Where a search sits.
-#[derive(Clone, Copy)]
-pub enum Place {
-    At(u32),
-    // nowhere: all 32 seats are taken
-    Full,
-}
-
+// The two answers below give the table by value, and what was said has a name: the theorems of ManyAnswers read both.
 #[derive(Clone, Copy)]
 pub struct Seated {
     pub table: Table,
-    pub place: Place,
+    // the number of its seat, or none where all 32 seats are taken
+    pub place: Option<u32>,
 }
 
 #[derive(Clone, Copy)]
 pub struct Scanned {
     pub table: Table,
     // where the list is refused the table is as it was
-    pub checked: Checked,
+    pub checked: Result<(), answers::Refusal>,
 }
 
 // What stands in a seat that no search has taken: one that is over.
@@ -89,38 +84,33 @@ pub fn add(t: Table, s: Seat) -> Seated
 {
     let n = t.size;
     if n < 32 {
-        let mut next = t;
-        next.seats[n as usize] = s;
-        next.size = n + 1;
-        return Seated {
-            table: next,
-            place: Place::At(n),
-        };
-    }
-    Seated {
-        table: t,
-        place: Place::Full,
+        let mut table = t;
+        table.seats[n as usize] = s;
+        table.size = n + 1;
+        Seated {
+            table,
+            place: Some(n),
+        }
+    } else {
+        Seated {
+            table: t,
+            place: None,
+        }
     }
 }
 
-// The answers, one at a time: each goes to its own search, in the table itself.
+// The answers, one at a time: each goes to its own search, in the table itself. One that names no search goes nowhere.
 fn given(t: Table, list: &[f64]) -> Table
-    requires list_len { length list.now % 3 ≡ 0 }
-    requires list_value { all_named 32 (answers_in list.now) ≡ true }
     ensures { result ≡ given_to t (answers_in list.now) }
 {
-    let mut next = t;
-    let mut i = 0;
-    while i < list.len() {
-        let n = answers::number(list[i]) as usize;
-        let f = list[i + 1];
-        let g = list[i + 2];
-        let was = next.seats[n];
-        let now = seats::answered(was, f, g);
-        next.seats[n] = now;
-        i += 3;
+    let mut table = t;
+    for &[number, cost, slope] in list.as_chunks::<3>().0 {
+        if let Some(n) = answers::number(number) {
+            let seat = &mut table.seats[n as usize];
+            *seat = seats::answered(*seat, cost, slope);
+        }
     }
-    next
+    table
 }
 
 // Gives every answer of the list to the search that it names, in list order; or says why it gives none. The list has
@@ -129,11 +119,6 @@ pub fn scan(t: Table, list: &[f64]) -> Scanned
     ensures { ScanSaid t list.now result }
 {
     let checked = answers::check(list, t.size);
-    match checked {
-        Checked::Sound => Scanned {
-            table: given(t, list),
-            checked,
-        },
-        Checked::Refused(_) => Scanned { table: t, checked },
-    }
+    let table = if checked.is_ok() { given(t, list) } else { t };
+    Scanned { table, checked }
 }

@@ -8,13 +8,13 @@ pub returns-then-not-options_finite : goal.returns-then-not-options_finite
 returns-then-not-options_finite c =
     not_finite c.args.j (sym c.options_finite.ensures ∙ c.if-not-options_finite.true)
 
-pub returns-in-Found : goal.returns-in-Found
-returns-in-Found c =
+pub returns-in-Ok : goal.returns-in-Ok
+returns-in-Ok c =
     let fine = sym c.options_finite.ensures ∙ c.if-not-options_finite.false in
-    let known = ap curve_told (sym c.in-Found.is) ∙ c.numbered.ensures in
+    let known = ap curve_told (sym c.in-Ok.is) ∙ c.numbered.ensures in
     c.over_curve.ensures ∙ found-curve c.args.j fine _ known
 
-pub returns-in-Unknown : goal.returns-in-Unknown
-returns-in-Unknown c =
+pub returns-in-Err : goal.returns-in-Err
+returns-in-Err c =
     let fine = sym c.options_finite.ensures ∙ c.if-not-options_finite.false in
-    unknown-curve c.args.j fine _ (ap curve_told (sym c.in-Unknown.is) ∙ c.numbered.ensures)
+    unknown-curve c.args.j fine _ (ap curve_told (sym c.in-Err.is) ∙ c.numbered.ensures)

@@ -1,42 +1,37 @@
--- `tables::given` meets its contract: what the answers before i left, with those from i on still to give. Assumes
--- nothing.
-use mathlib.Core.Path.{refl, sym, ◌∙◌}
-use native.Mathlib.Omega.{arith}
-use lib.ListN.{length-set}
-use lib.Ieee.{nan}
-use borrow.Author.Rules.{rules}
-use Rattle.answers.proofs.Lists.{named_here, named-later}
-use Rattle.tables.proofs.InPlace.{given-step, given-end, unmapped}
+-- `tables::given` meets its contract: what the answers before this one left, with those from it on still to give.
+-- Assumes nothing.
+use Rattle.std.proofs.Common.{[], map, get_or, drop, sym, ap, ◌∙◌, length-set, ◌+◌}
+use Rattle.std.proofs.lemmas.List.{drop_all}
+use Rattle.answers.proofs.Lists.{answer_of, answers-of-chunks}
+use Rattle.tables.specs.Tables.{given_to}
+use Rattle.tables.proofs.InPlace.{one_turn, with_seat, one-given, none-given}
 use Rattle.tables.proofs.given.Goals as goal
+use Rattle.tables.proofs.given.Goals.{in-Some, in_default}
 
-pub loop-i-init : goal.loop-i-init
-loop-i-init c = (omega arith, omega arith, c.requires.list_value, search (rules, unmapped), refl)
-
-pub bounds-next-n : goal.bounds-next-n
-bounds-next-n c =
-    let k = c.number-n.ensures in
-    let named = named_here 32 c.args.list.now c.loop-i.i nan (omega arith) c.loop-i.invariant.2 in
-    omega arith
-
-pub bounds-next-n-in-loop-i : goal.bounds-next-n-in-loop-i
-bounds-next-n-in-loop-i c =
-    let k = c.number-n.ensures in
-    let named = named_here 32 c.args.list.now c.loop-i.i nan (omega arith) c.loop-i.invariant.2 in
-    omega arith
-
-pub loop-i-preserved : goal.loop-i-preserved
-loop-i-preserved c =
-    let xs = c.args.list.now in
-    let l = c.loop-i in
-    let k = c.number-n.ensures in
-    let named = named_here 32 xs l.i nan (omega arith) l.invariant.2 in (
-      omega arith,
-      omega arith,
-      named-later 32 xs l.i nan (omega arith) l.invariant.2,
-      length-set l.next.seats _ _ ∙ l.invariant.3,
-      l.invariant.4
-          ∙ given-step l.next xs l.i _ _ _ (omega arith) k (rw l.invariant.3 (omega arith)) c.answered-now.ensures,
-    )
+pub loop-number-preserved : goal.loop-number-preserved
+loop-number-preserved c =
+    let l = c.loop-number in
+    let cs = c.as_chunks.result.0.now in
+    let a = get_or cs l.number-index [] in
+    let rest = map answer_of (drop (l.number-index + 1) cs) in
+    let turn = l.invariant.1 ∙ one_turn l.table cs l.number-index [] c.loop-number-test.true in
+    elim c.match-number.branch [
+      | in-Some w ↦ let n = w.in-Some.n in (
+        rw w.table-is (length-set l.table.seats n _ ∙ l.invariant.0),
+        turn ∙ ap (λ u. given_to u rest)
+            (one-given l.table a l.invariant.0 n _ (sym c.number.ensures ∙ w.in-Some.is)
+            ∙ ap (with_seat l.table n) (sym w.answered.ensures) ∙ sym w.table-is),
+      )
+      | in_default w ↦ (
+        rw w.table-is l.invariant.0,
+        turn ∙ ap (λ u. given_to u rest)
+            (none-given l.table a l.invariant.0 (sym c.number.ensures ∙ w.in_default.is) ∙ sym w.table-is),
+      )
+    ]
 
 pub returns : goal.returns
-returns c = sym (c.loop-i.invariant.4 ∙ given-end c.loop-i.next _ c.loop-i.i (omega arith))
+returns c =
+    let l = c.loop-number in
+    sym (ap (given_to c.args.t)
+    (answers-of-chunks c.args.list.now ∙ ap (map answer_of) (sym c.as_chunks.ensures.front))
+    ∙ l.invariant.1 ∙ rw (drop_all l.number-index c.as_chunks.result.0.now c.loop-number-test.false))
