@@ -6,4 +6,5 @@ use Rattle.bodies.proofs.floats.Goals as goal
 pub loop-x-preserved : goal.loop-x-preserved
 loop-x-preserved c =
     let l = c.loop-x in
-    one_more _ l.v l.x-index _ _ _ _ c.float.ensures c.from-rest-in-loop-x.ensures (search rules) (search rules) l.invariant
+    let next = c.from-rest-in-loop-x.ensures in
+    one_more _ l.v l.x-index _ _ _ _ c.float.ensures next (search rules) (search rules) l.invariant
