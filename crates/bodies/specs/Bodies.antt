@@ -1,16 +1,23 @@
 -- What the body of a case file's well-formed field says.
 use Rattle.std.specs.Prelude.{ℕ, zero, suc, cond, List, [], ◌∷◌, eqb, drop, Float}
 use Rattle.wire.specs.Wire.{byte_at, quad_of, float_of}
+use Rattle.hagerzhang_rules.specs.declared.Options as hager_zhang
 use Rattle.hagerzhang_rules.specs.declared.Params.{Params}
 use Rattle.hagerzhang_rules.specs.declared.Bounds.{Bounds}
 use Rattle.hagerzhang_rules.specs.declared.Way.{Way}
 use Rattle.hagerzhang_rules.specs.declared.Way.TheVariants.{Bounded, Growing}
 use Rattle.hagerzhang_rules.specs.Parameters.{bounds}
+use Rattle.backtracking.specs.declared.Options as backtracking
 use Rattle.conditions.specs.declared.Condition.{Condition}
 use Rattle.conditions.specs.declared.Condition.TheVariants.{Armijo, Goldstein, Wolfe, StrongWolfe}
-use Rattle.bodies.specs.declared.HagerZhangStart.{HagerZhangStart}
-use Rattle.bodies.specs.declared.BacktrackingStart.{BacktrackingStart}
+use Rattle.bodies.specs.declared.Start.{Start}
 use Rattle.bodies.specs.declared.Reply.{Reply}
+
+abbrev pub HagerZhangStart : Type 0
+HagerZhangStart = Start hager_zhang.Options
+
+abbrev pub BacktrackingStart : Type 0
+BacktrackingStart = Start backtracking.Options
 
 -- the float in the eight bytes from a place on
 abbrev pub float_at : List ℕ → ℕ → Float

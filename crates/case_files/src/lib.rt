@@ -2,11 +2,10 @@
 
 #![tactic(auto)]
 
-ghost use Rattle.std.specs.Prelude.{◌≡◌};
-ghost use Rattle.case_files.specs.CaseFiles.{is_way, is_condition, dot_field, point_field};
-ghost use Rattle.case_files.specs.CaseFiles.{tagged_field, may_have, read_of};
-
-use fields::Heading;
+ghost use Rattle.std.specs.Prelude.{◌≡◌, IfOk, length, drop};
+ghost use Rattle.wire.specs.Wire.{byte_at, pair_of};
+ghost use Rattle.case_files.specs.CaseFiles.{is_way, is_condition, length_at, dot_field, point_field};
+ghost use Rattle.case_files.specs.CaseFiles.{code_of, Decodes, tagged_field, may_have, read_of, Short};
 
 // A field by its kind, with the lengths that its body names.
 #[derive(Clone, Copy)]
@@ -23,129 +22,138 @@ pub enum Field {
     Dot(usize, usize),
     // tag 35: of x0, d and out with so many elements
     Point(usize, usize, usize),
-    Malformed,
 }
 
-fn is_way(k: u8) -> bool
-    ensures { result ≡ is_way k }
-{
-    k <= 1
+// What is no field: the tag is unknown, the body is not as the tag wants it, or the end of the input cuts it.
+#[derive(Clone, Copy)]
+pub struct Malformed;
+
+// The kind of a field, by its tag alone.
+#[derive(Clone, Copy)]
+enum Tag {
+    StartWhole,
+    StartHagerZhang,
+    StartBacktracking,
+    Answer,
+    Dot,
+    Point,
 }
 
-fn is_condition(k: u8) -> bool
-    ensures { result ≡ is_condition k }
-{
-    (1 <= k) & (k <= 4)
-}
+impl TryFrom<u8> for Tag {
+    type Error = Malformed;
 
-fn dot_field(size: usize, n: usize, m: usize) -> Field
-    ensures { result ≡ dot_field size n m }
-{
-    if 511 < n {
-        return Field::Malformed;
-    }
-    if 511 < m {
-        return Field::Malformed;
-    }
-    if size == 4 + 8 * (n + m) {
-        return Field::Dot(n, m);
-    }
-    Field::Malformed
-}
+    ghost try_from_gives = { Decodes };
 
-fn point_field(size: usize, n: usize, m: usize, k: usize) -> Field
-    ensures { result ≡ point_field size n m k }
-{
-    if 511 < n {
-        return Field::Malformed;
-    }
-    if 511 < m {
-        return Field::Malformed;
-    }
-    if 511 < k {
-        return Field::Malformed;
-    }
-    if size == 14 + 8 * (n + m) {
-        return Field::Point(n, m, k);
-    }
-    Field::Malformed
-}
-
-fn tagged_field(tag: u8, body: &[u8], searching: bool) -> Field
-    ensures { result ≡ tagged_field tag body.now searching }
-{
-    let size = body.len();
-    if tag == 16 {
-        let way = is_way(wire::byte(body, 96));
-        if (size == 105) & way {
-            return Field::StartWhole;
+    fn try_from(code: u8) -> Result<Self, Malformed> {
+        match code {
+            16 => Ok(Tag::StartWhole),
+            17 => Ok(Tag::Answer),
+            32 => Ok(Tag::StartHagerZhang),
+            33 => Ok(Tag::StartBacktracking),
+            34 => Ok(Tag::Dot),
+            35 => Ok(Tag::Point),
+            _ => Err(Malformed),
         }
-        return Field::Malformed;
     }
-    if tag == 17 {
-        if searching & (size == 16) {
-            return Field::Answer;
+}
+
+impl Tag {
+    #[tactic(auto, unfolding(crate::specs::CaseFiles::may_have))]
+    fn may_have(self, size: usize) -> bool
+        ensures { result ≡ may_have (code_of self) size }
+    {
+        match self {
+            Tag::StartWhole => size == 105,
+            Tag::Answer => size == 16,
+            Tag::StartHagerZhang => size == 96,
+            Tag::StartBacktracking => size == 53,
+            Tag::Dot | Tag::Point => size <= 8190,
         }
-        return Field::Malformed;
     }
-    if tag == 32 {
-        if size == 96 {
-            return Field::StartHagerZhang;
+
+    #[tactic(auto, unfolding(crate::specs::CaseFiles::tagged_field, crate::specs::CaseFiles::may_have))]
+    fn field(self, body: &[u8], searching: bool) -> Result<Field, Malformed>
+        ensures { result ≡ tagged_field (code_of self) body.now searching }
+    {
+        if !self.may_have(body.len()) {
+            return Err(Malformed);
         }
-        return Field::Malformed;
-    }
-    if tag == 33 {
-        let condition = is_condition(wire::byte(body, 0));
-        if (size == 53) & condition {
-            return Field::StartBacktracking;
+        match self {
+            Tag::StartWhole if has_way(body) => Ok(Field::StartWhole),
+            Tag::Answer if searching => Ok(Field::Answer),
+            Tag::StartHagerZhang => Ok(Field::StartHagerZhang),
+            Tag::StartBacktracking if has_condition(body) => Ok(Field::StartBacktracking),
+            Tag::Dot => dot_field(body),
+            Tag::Point => point_field(body),
+            _ => Err(Malformed),
         }
-        return Field::Malformed;
     }
-    if tag == 34 {
-        return dot_field(size, wire::pair(body), wire::pair(wire::from(body, 2)));
+}
+
+fn has_way(body: &[u8]) -> bool
+    ensures { result ≡ is_way (byte_at body.now 96) }
+{
+    wire::byte(body, 96) <= 1
+}
+
+fn has_condition(body: &[u8]) -> bool
+    ensures { result ≡ is_condition (byte_at body.now 0) }
+{
+    (1..=4).contains(&wire::byte(body, 0))
+}
+
+// The length of a vector, which the body names at this place.
+fn vector_length(body: &[u8], at: usize) -> Result<usize, Malformed>
+    ensures { result ≡ length_at body.now at }
+{
+    match wire::pair(wire::from(body, at)) {
+        n @ 0..=511 => Ok(n),
+        _ => Err(Malformed),
     }
-    if tag == 35 {
-        return point_field(
-            size,
-            wire::pair(body),
-            wire::pair(wire::from(body, 2)),
-            wire::pair(wire::from(body, 4)),
-        );
+}
+
+#[tactic(auto, unfolding(crate::specs::CaseFiles::dot_field))]
+fn dot_field(body: &[u8]) -> Result<Field, Malformed>
+    ensures { result ≡ dot_field (length body.now) (pair_of body.now) (pair_of (drop 2 body.now)) }
+{
+    let n = vector_length(body, 0)?;
+    let m = vector_length(body, 2)?;
+    if body.len() == 4 + 8 * (n + m) {
+        Ok(Field::Dot(n, m))
+    } else {
+        Err(Malformed)
     }
-    Field::Malformed
+}
+
+#[tactic(auto, unfolding(crate::specs::CaseFiles::point_field))]
+fn point_field(body: &[u8]) -> Result<Field, Malformed>
+    ensures { let s = body.now in
+        result ≡ point_field (length s) (pair_of s) (pair_of (drop 2 s)) (pair_of (drop 4 s)) }
+{
+    let n = vector_length(body, 0)?;
+    let m = vector_length(body, 2)?;
+    let k = vector_length(body, 4)?;
+    if body.len() == 14 + 8 * (n + m) {
+        Ok(Field::Point(n, m, k))
+    } else {
+        Err(Malformed)
+    }
 }
 
 // Whether a field with this tag may have a body of this size. Where it may not, the field is malformed by its head.
+#[tactic(auto, using(crate::proofs::Lengths::may_have_of_none))]
 pub fn may_have(tag: u8, size: usize) -> bool
     ensures { result ≡ may_have tag size }
 {
-    if tag == 16 {
-        return size == 105;
-    }
-    if tag == 17 {
-        return size == 16;
-    }
-    if tag == 32 {
-        return size == 96;
-    }
-    if tag == 33 {
-        return size == 53;
-    }
-    if tag == 34 {
-        return size <= 8190;
-    }
-    if tag == 35 {
-        return size <= 8190;
-    }
-    false
+    Tag::try_from(tag).is_ok_and(|tag| tag.may_have(size))
 }
 
 // The field with which s begins; `searching` says whether answers may come.
-pub fn read(s: &[u8], searching: bool) -> Field
-    ensures { result ≡ read_of s.now searching }
+#[tactic(auto, using(crate::proofs::Lengths::tagged_field_of_none, crate::proofs::Lengths::field_short))]
+pub fn read(s: &[u8], searching: bool) -> Result<Field, Malformed>
+    ensures value { result ≡ read_of s.now searching }
+    ensures lengths { IfOk result Short }
 {
-    match fields::head(s) {
-        Heading::Tagged(tag, _) => tagged_field(tag, fields::body(s), searching),
-        Heading::Cut => Field::Malformed,
-    }
+    let heading = fields::head(s).ok_or(Malformed)?;
+    Tag::try_from(heading.tag)?.field(fields::body(s), searching)
 }

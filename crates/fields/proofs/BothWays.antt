@@ -10,12 +10,11 @@ use borrow.Author.Tests.{le-leb}
 use lib.ListN.{length, drop, length-append, take-append-drop}
 use lib.Seq.{take-append_seam, drop-append_seam, drop-drop}
 use Rattle.wire.specs.Wire.{byte_at, pair_of}
-use Rattle.fields.specs.declared.Heading.TheVariants.{Tagged}
-use Rattle.fields.specs.Fields.{Field, written, head_of, body_of, end_of}
+use Rattle.fields.specs.Fields.{Field, written, head_with, head_of, body_of, end_of}
 use Rattle.fields.proofs.Heads.{opened, body-there, body-length, end-there}
 
 module _ (f : Field) (s : List ℕ) where
-  pub head-written : head_of (written f ++ s) ≡ Tagged f.tag (length f.body)
+  pub head-written : head_of (written f ++ s) ≡ head_with f.tag (length f.body)
   unfolding head_of
   head-written =
       let n = length f.body in
@@ -32,7 +31,7 @@ module _ (f : Field) (s : List ℕ) where
       let n = length f.body in
       rw (end-there all f.tag n head-written, ← drop-drop n 3 all, drop-append_seam f.body s)
 
-module _ (s : List ℕ) (tag n : ℕ) (whole : head_of s ≡ Tagged tag n) where
+module _ (s : List ℕ) (tag n : ℕ) (whole : head_of s ≡ head_with tag n) where
   -- the length of a short body stands in its low byte
   pub low_byte : n < 256 → byte_at s 2 < 256
   low_byte small =

@@ -5,38 +5,38 @@ use mathlib.Core.Bool.{Bool, true, false, cond}
 use mathlib.Core.List.{List, [], ◌∷◌, ◌++◌}
 use Prim.Native.Nat.{ℕ, ◌+◌, ◌-◌, ◌*◌, ◌≤◌, ◌<◌}
 use native.Mathlib.Omega.{arith}
-use borrow.Author.Tests.{le-leb, lt-leb, leb-true}
+use borrow.Author.Tests.{le-leb, leb-true}
 use lib.Dec.{leb}
 use lib.ListN.{length, take, drop, length-append, length-drop}
 use lib.Seq.{length-take-le, take-append-le, drop-append-le}
 use Rattle.wire.specs.Wire.{byte_at, pair_of}
-use Rattle.fields.specs.declared.Heading.TheVariants.{Tagged, Cut}
-use Rattle.fields.specs.Fields.{head_of, body_of, end_of}
+use Rattle.std.specs.Prelude.{Some, None}
+use Rattle.std.specs.Bool.{then_some}
+use Rattle.fields.specs.declared.Heading.{Heading}
+use Rattle.fields.specs.Fields.{head_with, head_of, body_of, end_of}
 
 -- ---- by the places of the bytes
 
-pub short_cut : (s : List ℕ) → length s < 3 → Cut ≡ head_of s
+pub short_cut : (s : List ℕ) → length s < 3 → None ≡ head_of s
 unfolding head_of
 short_cut [] h = refl
 short_cut (tag ∷ []) h = refl
 short_cut (tag ∷ high ∷ []) h = refl
 short_cut (tag ∷ high ∷ low ∷ rest) h = absurd (omega arith)
 
-module _ (n : ℕ) where
-  pub long-cut : (s : List ℕ) → 3 ≤ length s → n ≡ pair_of (take 2 (drop 1 s)) → length s - 3 < n → Cut ≡ head_of s
-  unfolding head_of
-  long-cut [] three e h = refl
-  long-cut (tag ∷ []) three e h = refl
-  long-cut (tag ∷ high ∷ []) three e h = refl
-  long-cut (tag ∷ high ∷ low ∷ rest) three e h = rw (lt-leb (high * 256 + low) (length rest) (omega arith))
+some_if : (b : Bool) (x : Heading) → then_some b x ≡ cond b (Some x) None
+some_if true x = refl
+some_if false x = refl
 
-  pub tagged : (s : List ℕ) → 3 ≤ length s → n ≡ pair_of (take 2 (drop 1 s)) → n ≤ length s - 3
-      → Tagged (byte_at s 0) n ≡ head_of s
-  unfolding head_of
-  tagged [] three e h = absurd (omega arith)
-  tagged (tag ∷ []) three e h = absurd (omega arith)
-  tagged (tag ∷ high ∷ []) three e h = absurd (omega arith)
-  tagged (tag ∷ high ∷ low ∷ rest) three e h = rw (le-leb (high * 256 + low) (length rest) (omega arith), e)
+-- where three bytes are in front of the rest
+pub tagged : (n : ℕ) (s front rest : List ℕ) → front ≡ take 3 s → rest ≡ drop 3 s
+    → length rest + 3 ≡ length s → n ≡ pair_of (take 2 (drop 1 front))
+    → then_some (leb n (length rest)) (record { tag = byte_at front 0; size = n }) ≡ head_of s
+unfolding head_of
+tagged n [] front rest f r long e = absurd (omega arith)
+tagged n (tag ∷ []) front rest f r long e = absurd (omega arith)
+tagged n (tag ∷ high ∷ []) front rest f r long e = absurd (omega arith)
+tagged n (tag ∷ high ∷ low ∷ left) front rest f r long e = rw (e, f, r) (some_if _ _)
 
 -- ---- the bytes of a field that is whole
 
@@ -48,15 +48,20 @@ pub record Opens (s : List ℕ) (tag n : ℕ) : Type 0 where
   pub size : high * 256 + low ≡ n
   pub long : n ≤ length rest
 
-not-cut : {A : Type 0} (tag n : ℕ) → Cut ≡ Tagged tag n → A
+not-cut : {A : Type 0} (tag n : ℕ) → None ≡ head_with tag n → A
 not-cut tag n h = let z : ◌≡◌ {A = ℕ} 0 1 = cc in absurd (omega arith)
 
+the_heading : (x y : Heading) → Some x ≡ Some y → x ≡ y
+the_heading x y h = cc
+
 module _ (tag n : ℕ) where
-  is_whole : (b : Bool) (k m : ℕ) → cond b (Tagged k m) Cut ≡ Tagged tag n → (b ≡ true) × (k ≡ tag) × (m ≡ n)
-  is_whole true k m h = (refl, cc, cc)
+  is_whole : (b : Bool) (k m : ℕ) → cond b (head_with k m) None ≡ head_with tag n → (b ≡ true) × (k ≡ tag) × (m ≡ n)
+  is_whole true k m h =
+      let e = the_heading (record { tag = k; size = m }) (record { tag = tag; size = n }) h in
+      (refl, ap (λ (x : Heading). x.tag) e, ap (λ (x : Heading). x.size) e)
   is_whole false k m h = not-cut tag n h
 
-  opens : (s : List ℕ) → head_of s ≡ Tagged tag n → Opens s tag n
+  opens : (s : List ℕ) → head_of s ≡ head_with tag n → Opens s tag n
   unfolding head_of
   opens [] h = not-cut tag n h
   opens (k ∷ []) h = not-cut tag n h
@@ -69,7 +74,7 @@ module _ (tag n : ℕ) where
 
 -- ---- a field that is whole: it lies within the bytes, and more bytes behind do not change it
 
-module _ (s : List ℕ) (tag n : ℕ) (whole : head_of s ≡ Tagged tag n) where
+module _ (s : List ℕ) (tag n : ℕ) (whole : head_of s ≡ head_with tag n) where
   pub opened : Opens s tag n
   opened = opens tag n s whole
 
@@ -79,9 +84,6 @@ module _ (s : List ℕ) (tag n : ℕ) (whole : head_of s ≡ Tagged tag n) where
   pub body-there : body_of s ≡ take n (drop 3 s)
   body-there = rw whole
 
-  pub body-part : take (3 + n - 3) (drop 3 s) ≡ body_of s
-  body-part = let e : 3 + n - 3 ≡ n = omega arith in rw (e, whole)
-
   pub body-length : length (body_of s) ≡ n
   body-length =
       let l = within in
@@ -90,7 +92,7 @@ module _ (s : List ℕ) (tag n : ℕ) (whole : head_of s ≡ Tagged tag n) where
   pub end-there : end_of s ≡ 3 + n
   end-there = rw whole
 
-  pub head-front : (t : List ℕ) → head_of (s ++ t) ≡ Tagged tag n
+  pub head-front : (t : List ℕ) → head_of (s ++ t) ≡ head_with tag n
   unfolding head_of
   head-front t =
       let o = opened in

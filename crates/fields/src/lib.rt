@@ -3,43 +3,37 @@
 
 #![tactic(auto)]
 
-ghost use Rattle.std.specs.Prelude.{◌≡◌, ◌≤◌, length};
+ghost use Rattle.std.specs.Prelude.{◌≡◌, ◌+◌, ◌≤◌, IfSome, length};
 ghost use Rattle.fields.specs.Fields.{head_of, body_of, end_of};
 
-// What the head of a field says.
+// What the head of a whole field says: its tag, and the length of its body.
 #[derive(Clone, Copy)]
-pub enum Heading {
-    // the tag, and the length of the body, which is whole
-    Tagged(u8, usize),
-    // the bytes end within the field
-    Cut,
+pub struct Heading {
+    pub tag: u8,
+    pub size: usize,
 }
 
-// The head of the field with which s begins.
-pub fn head(s: &[u8]) -> Heading
-    ensures { result ≡ head_of s.now }
+// The head of the field with which s begins; none where the bytes end within the field.
+pub fn head(s: &[u8]) -> Option<Heading>
+    ensures value { result ≡ head_of s.now }
+    ensures within { IfSome result (λ h. 3 + h.size ≤ length s.now) }
 {
-    if s.len() < 3 {
-        return Heading::Cut;
-    }
-    let n = wire::pair(&s[1..3]);
-    if s.len() - 3 < n {
-        return Heading::Cut;
-    }
-    Heading::Tagged(s[0], n)
+    let (front, rest) = s.split_first_chunk::<3>()?;
+    let size = wire::pair(&front[1..]);
+    (size <= rest.len()).then_some(Heading {
+        tag: front[0],
+        size,
+    })
 }
 
 // The body of the field with which s begins, a part of s; nothing where it is cut.
 pub fn body(s: &[u8]) -> &[u8]
     ensures { result.now ≡ body_of s.now }
 {
-    match head(s) {
-        Heading::Tagged(_, n) => {
-            let end = 3 + n;
-            &s[3..end]
-        }
-        Heading::Cut => &s[0..0],
-    }
+    let Some(heading) = head(s) else {
+        return &s[..0];
+    };
+    &s[3..3 + heading.size]
 }
 
 // The place behind the field with which s begins; the end of s where it is cut.
@@ -47,8 +41,5 @@ pub fn end(s: &[u8]) -> usize
     ensures value { result ≡ end_of s.now }
     ensures upper_bound { result ≤ length s.now }
 {
-    match head(s) {
-        Heading::Tagged(_, n) => 3 + n,
-        Heading::Cut => s.len(),
-    }
+    head(s).map_or(s.len(), |heading| 3 + heading.size)
 }

@@ -9,24 +9,24 @@ use borrow.Author.Tests.{eqb-true}
 use lib.Dec.{eqb}
 use lib.ListN.{length, take, drop, length-drop}
 use lib.Seq.{drop-drop, take-nil, drop-nil}
+use Rattle.std.specs.Prelude.{Option, Some, None}
 use Rattle.floats.proofs.Branches.{and_first, and_second}
 use Rattle.wire.specs.Wire.{pair_of, float_of}
 use Rattle.fields.specs.declared.Heading.{Heading}
-use Rattle.fields.specs.declared.Heading.TheVariants.{Tagged, Cut}
-use Rattle.fields.specs.Fields.{head_of, body_of, end_of}
+use Rattle.fields.specs.Fields.{head_with, head_of, body_of, end_of}
 use Rattle.fields.proofs.Heads as heads
 use Rattle.jobs.specs.Format.{float_in, said}
 use Rattle.jobs.specs.Reader.{is_the_field, stands, found, behind}
 
-is_field : (tag n : ℕ) (h : Heading) → is_the_field tag n h ≡ true → h ≡ Tagged tag n
-is_field tag n (Tagged k m) e =
-    let first = eqb-true k tag (and_first (eqb k tag) (eqb m n) e) in
-    let second = eqb-true m n (and_second (eqb k tag) (eqb m n) e) in
-    ap₂ Tagged first second
-is_field tag n Cut e = absurd (false≢true e)
+is_field : (tag n : ℕ) (h : Option Heading) → is_the_field tag n h ≡ true → h ≡ head_with tag n
+is_field tag n (Some h) e =
+    let first = eqb-true h.tag tag (and_first (eqb h.tag tag) (eqb h.size n) e) in
+    let second = eqb-true h.size n (and_second (eqb h.tag tag) (eqb h.size n) e) in
+    ap₂ head_with first second
+is_field tag n None e = absurd (false≢true e)
 
 -- what the head of a field says that stands there
-pub its-head : (tag n : ℕ) (s : List ℕ) → stands tag n s ≡ true → head_of s ≡ Tagged tag n
+pub its-head : (tag n : ℕ) (s : List ℕ) → stands tag n s ≡ true → head_of s ≡ head_with tag n
 unfolding stands
 its-head tag n s h = is_field tag n (head_of s) h
 

@@ -5,7 +5,6 @@ use Rattle.refusals.specs.Results.{Result, value, refused}
 use Rattle.hagerzhang_rules.specs.declared.Options.{Options}
 use Rattle.hagerzhang_rules.specs.Parameters.{default_options}
 use Rattle.fields.specs.declared.Heading.{Heading}
-use Rattle.fields.specs.declared.Heading.TheVariants.{Tagged, Cut}
 use Rattle.fields.specs.Fields.{head_of, body_of, end_of}
 use Rattle.jobs.specs.declared.Job.{Job}
 use Rattle.jobs.specs.declared.Reading.{Reading}
@@ -13,9 +12,9 @@ use Rattle.jobs.specs.declared.Reading.TheVariants.{Whole, Malformed}
 use Rattle.jobs.specs.Format.{options_of, decoded}
 
 -- the bytes begin with a field of this tag, whose body has n bytes
-abbrev pub is_the_field : ℕ → ℕ → Heading → Bool
-is_the_field tag n (Tagged k m) = eqb k tag && eqb m n
-is_the_field tag n Cut = false
+abbrev pub is_the_field : ℕ → ℕ → Option Heading → Bool
+is_the_field tag n (Some h) = eqb h.tag tag && eqb h.size n
+is_the_field tag n None = false
 
 unfoldable pub stands : ℕ → ℕ → List ℕ → Bool
 stands tag n s = is_the_field tag n (head_of s)

@@ -12,7 +12,6 @@ ghost use Rattle.jobs.specs.Opening.{over_curve, begun_by, opened_told, BeginSai
 ghost use Rattle.jobs.specs.Reader.{stands, found, behind, options_at, ReadSaid};
 
 use curves::Curve;
-use fields::Heading;
 use hagerzhang::{Started, Turn};
 use hagerzhang_rules::{Bounds, Options, Params, Way};
 use refusals::Refusal;
@@ -38,13 +37,12 @@ pub enum Reading {
 struct Place(usize, u8, usize);
 
 // Whether it stands there.
+#[tactic(auto, unfolding(crate::specs::Reader::stands))]
 fn stands(job: &[u8], p: Place) -> bool
     ensures { result ≡ stands p.1 p.2 (drop p.0 job.now) }
 {
-    match fields::head(wire::from(job, p.0)) {
-        Heading::Tagged(tag, n) => (tag == p.1) & (n == p.2),
-        Heading::Cut => false,
-    }
+    let head = fields::head(wire::from(job, p.0));
+    head.is_some_and(|h| h.tag == p.1 && h.size == p.2)
 }
 
 // The place behind the field; or the same place where it is absent.

@@ -1,12 +1,12 @@
 -- `fields::head` meets its contract. Assumes nothing.
-use Rattle.fields.proofs.Heads.{short_cut, long-cut, tagged}
+use mathlib.Core.Path.{◌∙◌}
+use Rattle.fields.proofs.Heads.{short_cut, tagged}
 use Rattle.fields.proofs.head.Goals as goal
 
-pub returns-then-s-lt3 : goal.returns-then-s-lt3
-returns-then-s-lt3 c = short_cut _ c.if-s-lt3.true
+pub returns-in_err-front-clause-value : goal.returns-in_err-front-clause-value
+returns-in_err-front-clause-value c = c.from_residual.ensures ∙ short_cut _ c.in_err-front.ensures.cases
 
-pub returns-then-s-n : goal.returns-then-s-n
-returns-then-s-n c = long-cut _ _ c.if-s-lt3.false c.pair-n.ensures.value c.if-s-n.true
-
-pub returns : goal.returns
-returns c = tagged _ _ c.if-s-lt3.false c.pair-n.ensures.value c.if-s-n.false
+pub returns-clause-value : goal.returns-clause-value
+returns-clause-value c =
+    let (front, rest, long) = c.in_ok-front.ensures.cases in
+    c.then_some.ensures ∙ tagged _ _ _ _ front rest long c.pair-size.ensures.value

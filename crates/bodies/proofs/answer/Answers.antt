@@ -1,6 +1,0 @@
--- `bodies::answer` meets its contract. Assumes nothing.
-use Rattle.bodies.proofs.answer.Goals as goal
-
-pub returns : goal.returns
-returns c =
-    rw (c.float-2.ensures, c.float.ensures)
