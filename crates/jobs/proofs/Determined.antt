@@ -24,31 +24,32 @@ use Rattle.refusals.proofs.Determined.{with_number, number-back}
 use Rattle.curves.specs.declared.Curve.{Curve}
 use Rattle.hagerzhang.specs.Machine.{Turn}
 use Rattle.jobs.specs.declared.Job.{Job}
-use Rattle.jobs.specs.declared.Reading.{Reading}
-use Rattle.jobs.specs.declared.Reading.TheVariants.{Whole, Malformed}
-use Rattle.jobs.specs.declared.Opened.{Opened}
-use Rattle.jobs.specs.declared.Opened.TheVariants.{Begun, NoSearch, Unreadable}
+use Rattle.std.specs.Prelude.{Ok, Err}
+use Rattle.std.specs.Prelude as Rust
+use Rattle.jobs.specs.declared.refusal.Malformed.{Malformed}
+use Rattle.jobs.specs.declared.refusal.Refusal as Jobs
+use Rattle.jobs.specs.declared.refusal.Refusal.TheVariants.{Malformed as NoJob, NoSearch}
 use Rattle.jobs.specs.Reader.{read_told, ReadSaid}
-use Rattle.jobs.specs.Opening.{opened_told, BeginSaid}
+use Rattle.jobs.specs.Opening.{Opened, opened_told, BeginSaid}
 
-reading : Result Job → Reading
-reading (value j) = Whole j
-reading (refused n) = Malformed
+reading : Result Job → Rust.Result Job Malformed
+reading (value j) = Ok j
+reading (refused n) = Err (record {})
 
-reading-back : (r : Reading) → reading (read_told r) ≡ r
+reading-back : (r : Rust.Result Job Malformed) → reading (read_told r) ≡ r
 unfolding reading
-reading-back (Whole j) = refl
-reading-back Malformed = refl
+reading-back (Ok j) = refl
+reading-back (Err e) = refl
 
-pub read-determined : (bytes : List ℕ) (r q : Reading) → ReadSaid bytes r → ReadSaid bytes q → r ≡ q
+pub read-determined : (bytes : List ℕ) (r q : Rust.Result Job Malformed) → ReadSaid bytes r → ReadSaid bytes q → r ≡ q
 read-determined bytes r q said said' = determined read_told reading reading-back r q (said ∙ sym said')
 
 opens : Result (Curve × Turn) → Opened
-opens (value p) = Begun p.0 p.1
-opens (refused n) = cond (eqb n 9) Unreadable (NoSearch (with_number n))
+opens (value p) = Ok p
+opens (refused n) = Err (cond (eqb n 9) NoJob (NoSearch (with_number n)))
 
 -- no refusal of a search has 9's number
-not-nine : (k : Refusal) (a b : Opened) → cond (eqb (number_of k) 9) a b ≡ b
+not-nine : (k : Refusal) (a b : Jobs.Refusal) → cond (eqb (number_of k) 9) a b ≡ b
 not-nine SuppliedNotFinite a b = refl
 not-nine OutOfRange a b = refl
 not-nine ResultNotFinite a b = refl
@@ -61,9 +62,9 @@ not-nine GrowthsSpent a b = refl
 
 opens_back : (r : Opened) → opens (opened_told r) ≡ r
 unfolding opens
-opens_back (Begun c t) = refl
-opens_back (NoSearch k) = rw (not-nine k _ _) (ap NoSearch (number-back k))
-opens_back Unreadable = refl
+opens_back (Ok p) = refl
+opens_back (Err NoJob) = refl
+opens_back (Err (NoSearch k)) = rw (not-nine k _ _) (ap (λ (n : Refusal). Err (NoSearch n)) (number-back k))
 
 pub begin-determined : (bytes : List ℕ) (r q : Opened) → BeginSaid bytes r → BeginSaid bytes q → r ≡ q
 begin-determined bytes r q said said' = determined opened_told opens opens_back r q (said ∙ sym said')

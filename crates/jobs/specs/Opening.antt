@@ -1,5 +1,6 @@
 -- 01, "Order", over a whole job: "9, 2, 3, 4 in that order"; and the search that starts where none applies.
-use Rattle.std.specs.Prelude.{ℕ, ◌≡◌, not, List, ◌∷◌, Float}
+use Rattle.std.specs.Prelude.{ℕ, ◌≡◌, not, List, ◌∷◌, Float, Ok, Err}
+use Rattle.std.specs.Prelude as Rust
 use Rattle.floats.specs.Arithmetic.{0ᶠ}
 use Rattle.refusals.specs.Results.{Result, value, refused, Row, refuse◌else◌}
 use Rattle.refusals.specs.Refusals.{number_of}
@@ -12,8 +13,8 @@ use Rattle.hagerzhang.specs.Machine.{Turn}
 use Rattle.hagerzhang.specs.Machine.{fresh_of}
 use Rattle.jobs.specs.declared.Job.{Job}
 use Rattle.jobs.specs.Reader.{job_of}
-use Rattle.jobs.specs.declared.Opened.{Opened}
-use Rattle.jobs.specs.declared.Opened.TheVariants.{Begun, NoSearch, Unreadable}
+use Rattle.jobs.specs.declared.refusal.Refusal.{Refusal}
+use Rattle.jobs.specs.declared.refusal.Refusal.TheVariants.{Malformed, NoSearch}
 
 abbrev pub curve_of : Job → Curve
 curve_of j = numbered_at j.curve
@@ -54,11 +55,18 @@ over_curve c o =
     let s0 = slope_of c 0ᶠ in
     refuse (start_rows o f0 s0) else (c, fresh_of (setup_of o f0 s0))
 
--- what each case of the answer tells
+-- the number of each refusal of a job
+abbrev pub refusal_number : Refusal → ℕ
+refusal_number Malformed = 9
+refusal_number (NoSearch k) = number_of k
+
+-- what a job begins, in the code, and what each case of it tells
+abbrev pub Opened : Type 0
+Opened = Rust.Result (Curve × Turn) Refusal
+
 abbrev pub opened_told : Opened → Result (Curve × Turn)
-opened_told (Begun c t) = value (c, t)
-opened_told (NoSearch k) = refused (number_of k)
-opened_told Unreadable = refused 9
+opened_told (Ok p) = value p
+opened_told (Err r) = refused (refusal_number r)
 
 -- what `begin`'s contract says of a result r, for any bytes
 abbrev pub BeginSaid : List ℕ → Opened → Type 0

@@ -1,14 +1,14 @@
 -- How a job is read, for any bytes at all: in the order of the tags each field is there or not, and nothing may be
 -- left. That this reads 01's format, no less and no more, whatever the defaults are, is proved in proofs/BothWays.antt.
-use Rattle.std.specs.Prelude.{ℕ, ◌≡◌, Bool, false, cond, ◌&&◌, List, eqb, length, drop, Option, Some, None}
+use Rattle.std.specs.Prelude.{ℕ, ◌≡◌, Bool, false, cond, ◌&&◌, List, eqb, length, drop, Option, Some, None, Ok, Err}
+use Rattle.std.specs.Prelude as Rust
 use Rattle.refusals.specs.Results.{Result, value, refused}
 use Rattle.hagerzhang_rules.specs.declared.Options.{Options}
 use Rattle.hagerzhang_rules.specs.Parameters.{default_options}
 use Rattle.fields.specs.declared.Heading.{Heading}
 use Rattle.fields.specs.Fields.{head_of, body_of, end_of}
 use Rattle.jobs.specs.declared.Job.{Job}
-use Rattle.jobs.specs.declared.Reading.{Reading}
-use Rattle.jobs.specs.declared.Reading.TheVariants.{Whole, Malformed}
+use Rattle.jobs.specs.declared.refusal.Malformed.{Malformed}
 use Rattle.jobs.specs.Format.{options_of, decoded}
 
 -- the bytes begin with a field of this tag, whose body has n bytes
@@ -26,16 +26,6 @@ found tag n s = cond (stands tag n s) (Some (body_of s)) None
 unfoldable pub behind : ℕ → ℕ → List ℕ → List ℕ
 behind tag n s = cond (stands tag n s) (drop (end_of s) s) s
 
--- what the fields 2 to 6 say, each looked for at its place, over today's defaults
-abbrev pub options_at : List ℕ → ℕ → ℕ → ℕ → ℕ → ℕ → Options
-options_at s bounds start epsilon budget limit =
-    options_of default_options
-    (found 2 16 (drop bounds s))
-    (found 3 8 (drop start s))
-    (found 4 8 (drop epsilon s))
-    (found 5 2 (drop budget s))
-    (found 6 2 (drop limit s))
-
 -- 9: "the job is malformed", where something is left, or the curve is missing; d are the defaults
 abbrev pub job_by : Options → List ℕ → Result Job
 job_by d s1 =
@@ -52,10 +42,10 @@ abbrev pub job_of : List ℕ → Result Job
 job_of s = job_by default_options s
 
 -- what each case of the answer tells
-abbrev pub read_told : Reading → Result Job
-read_told (Whole j) = value j
-read_told Malformed = refused 9
+abbrev pub read_told : Rust.Result Job Malformed → Result Job
+read_told (Ok j) = value j
+read_told (Err e) = refused 9
 
 -- what `read`'s contract says of a result r, for any bytes
-abbrev pub ReadSaid : List ℕ → Reading → Type 0
+abbrev pub ReadSaid : List ℕ → Rust.Result Job Malformed → Type 0
 ReadSaid bytes r = read_told r ≡ job_of bytes
