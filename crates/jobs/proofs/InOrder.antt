@@ -12,11 +12,15 @@ use Rattle.hagerzhang_rules.specs.Parameters.{default_options}
 use Rattle.wire.specs.Wire.{byte_at}
 use Rattle.jobs.specs.declared.Job.{Job}
 use Rattle.jobs.specs.Format.{decoded, options_of}
-use Rattle.jobs.specs.Reader.{found, behind, job_of}
+use Rattle.jobs.specs.Reader.{stands, found, behind, job_of}
 
 either_way : (b : Bool) (a : Result Job) → a ≡ cond b a a
 either_way true a = refl
 either_way false a = refl
+
+pub not_found : (tag n : ℕ) (s : List ℕ) → stands tag n s ≡ false → None ≡ found tag n s
+unfolding found
+not_found tag n s h = rw h
 
 -- no curve, no job
 pub no-curve : (s : List ℕ) → None ≡ found 1 1 s → refused 9 ≡ job_of s

@@ -23,7 +23,7 @@ use Rattle.jobs.specs.declared.Job.{Job}
 use Rattle.jobs.specs.Format.{size_of, WellFormed, nothing, field, body_under, decoded, means_of}
 use Rattle.jobs.specs.Reader.{stands, job_by, job_of}
 use Rattle.jobs.proofs.Parts.{within}
-use Rattle.jobs.proofs.InOrder.{no-curve}
+use Rattle.jobs.proofs.InOrder.{not_found, no-curve}
 use Rattle.jobs.proofs.BothWays as jobs
 use Rattle.stored_jobs.specs.OldBounds.{old_defaults, old_bounds, with_bounds, bytes_of, is_job}
 use Rattle.stored_jobs.specs.Kept.{relies, kept_of}
@@ -83,7 +83,7 @@ four_bytes s h = by-curve (stands 1 1 s) refl
     by-curve : (b : Bool) → stands 1 1 s ≡ b → 4 ≤ length s
     by-curve true e = within s 0 1 1 e
     by-curve false e =
-        absurd (false≢true (ap is_job (no-curve s e) ∙ and_first (is_job (job_of s)) (not (eqb (byte_at s 4) 2)) h))
+        absurd (false≢true (ap is_job (no-curve s (not_found 1 1 s e)) ∙ and_first (is_job (job_of s)) (not (eqb (byte_at s 4) 2)) h))
 
 single : (l : List ℕ) → length l ≡ 1 → l ≡ byte_at l 0 ∷ []
 single [] h = absurd (omega arith)

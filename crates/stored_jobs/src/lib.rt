@@ -7,17 +7,13 @@ ghost use Rattle.std.specs.Prelude.{◌≡◌};
 ghost use Rattle.text.specs.Text.{Writes};
 ghost use Rattle.stored_jobs.specs.Kept.{relies, kept_of};
 
-use jobs::Reading;
 use text::Cursor;
 
 // Whether the bytes are a job that has no field 2. Such a field would stand behind the curve's, which has four bytes.
 fn relies(job: &[u8]) -> bool
     ensures { result ≡ relies job.now }
 {
-    match jobs::read(job) {
-        Reading::Whole(_) => wire::byte(job, 4) != 2,
-        Reading::Malformed => false,
-    }
+    jobs::read(job).is_ok() && wire::byte(job, 4) != 2
 }
 
 // Writes the job, with the old bounds as its field 2 where it has none. A job that has one, and bytes that are no job,

@@ -1,21 +1,30 @@
 -- `stored_jobs::relies` meets its contract. Assumes nothing.
+use mathlib.Core.Path.{◌≡◌, sym, ap, ◌∙◌}
+use mathlib.Core.Bool.{Bool}
+use mathlib.Core.List.{List}
 use Prim.Native.Nat.{ℕ}
-use mathlib.Core.Path.{sym, ap, ◌∙◌}
-use mathlib.Core.Bool.{not}
-use lib.Dec.{eqb}
-use Rattle.jobs.specs.Reader.{read_told}
+use Rattle.std.specs.Prelude.{Ok, Err, is_ok}
+use Rattle.std.specs.Prelude as Rust
+use Rattle.jobs.specs.declared.Job.{Job}
+use Rattle.jobs.specs.declared.refusal.Malformed.{Malformed}
+use Rattle.jobs.specs.Reader.{job_of, ReadSaid}
 use Rattle.stored_jobs.specs.OldBounds.{is_job}
 use Rattle.stored_jobs.specs.Kept.{relies}
 use Rattle.stored_jobs.proofs.relies.Goals as goal
 
-pub returns-in-Whole : goal.returns-in-Whole
-unfolding relies
-returns-in-Whole c =
-    let job = ap is_job (ap read_told (sym c.in-Whole.is) ∙ c.read.ensures) in
-    rw (← job) (ap (λ (b : ℕ). not (eqb b 2)) c.byte.ensures)
+-- the bytes are a job exactly where the reader gives one
+read_so : (r : Rust.Result Job Malformed) (s : List ℕ) → ReadSaid s r → is_ok r ≡ is_job (job_of s)
+read_so (Ok j) s e = ap is_job e
+read_so (Err k) s e = ap is_job e
 
-pub returns-in-Malformed : goal.returns-in-Malformed
+pub returns-then-is_ok : goal.returns-then-is_ok
 unfolding relies
-returns-in-Malformed c =
-    let job = ap is_job (ap read_told (sym c.in-Malformed.is) ∙ c.read.ensures) in
-    rw (← job)
+returns-then-is_ok c =
+    let job = sym (read_so _ _ c.read.ensures) ∙ sym c.is_ok.ensures.value ∙ c.if-is_ok.true in
+    rw (job, c.byte.ensures)
+
+pub returns-else-is_ok : goal.returns-else-is_ok
+unfolding relies
+returns-else-is_ok c =
+    let job = sym (read_so _ _ c.read.ensures) ∙ sym c.is_ok.ensures.value ∙ c.if-is_ok.false in
+    rw (job, c.if-is_ok.false)

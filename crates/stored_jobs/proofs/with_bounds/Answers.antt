@@ -18,9 +18,8 @@ pub returns-then-relies : goal.returns-then-relies
 unfolding kept_of
 returns-then-relies c =
     let relied : relies c.args.job.now ≡ true = sym c.relies.ensures ∙ c.if-relies.true in
-    rw (relied, ← c.from.ensures)
-    (then _ _ _ (then _ _ _ c.word-p.ensures c.word-q.ensures) c.word.ensures)
+    rw (relied, ← c.from.ensures) (then _ _ (then _ _ c.word.ensures c.word-then-relies.ensures) c.word-then-relies-2.ensures)
 
-pub returns : goal.returns
+pub returns-else-relies : goal.returns-else-relies
 unfolding kept_of
-returns c = rw (← c.relies.ensures, c.if-relies.false) c.word-2.ensures
+returns-else-relies c = rw (← c.relies.ensures, c.if-relies.false) c.word-else-relies.ensures
