@@ -1,13 +1,13 @@
 -- Any two results that `check`'s contract allows are identical (01, "How tight the contracts are"). The other contracts
 -- give the result itself. Assumes nothing.
 use Rattle.std.proofs.Common.{◌≡◌, ℕ, cond, eqb, List, sym, refl, ap, ◌∙◌}
+use Rattle.std.specs.Prelude.{Ok, Err}
+use Rattle.std.specs.Prelude as Rust
 use lib.Ieee.{Float}
 use Rattle.floats.proofs.Determined.{determined}
 use Rattle.refusals.specs.Results.{Result, value, refused}
 use Rattle.answers.specs.declared.Refusal.{Refusal}
 use Rattle.answers.specs.declared.Refusal.TheVariants.{Lengths, NoSuchSearch}
-use Rattle.std.specs.Prelude.{Ok, Err}
-use Rattle.std.specs.Prelude as Rust
 use Rattle.answers.specs.Answers.{refusal_number, checked_told, CheckedSaid}
 
 -- the numbers tell the refusals apart
@@ -32,5 +32,6 @@ back (Err k) = ap Err (number-back k)
 pub told-apart : (r q : Rust.Result Unit Refusal) → checked_told r ≡ checked_told q → r ≡ q
 told-apart r q e = determined checked_told read back r q e
 
-pub check-determined : (n : ℕ) (xs : List Float) (r q : Rust.Result Unit Refusal) → CheckedSaid n xs r → CheckedSaid n xs q → r ≡ q
+pub check-determined : (n : ℕ) (xs : List Float) (r q : Rust.Result Unit Refusal)
+    → CheckedSaid n xs r → CheckedSaid n xs q → r ≡ q
 check-determined n xs r q said said' = told-apart r q (said ∙ sym said')

@@ -1,8 +1,7 @@
 -- A list of answers, read as arrays of three floats, and the search that an answer changes. Assumes nothing.
 use Rattle.std.proofs.Common.{◌≡◌, ℕ, zero, suc, ◌%◌, ◌<◌, ◌≤◌, true, false, ◌&&◌, ltb, List, [], ◌∷◌}
 use Rattle.std.proofs.Common.{◌++◌, length, get_or, set, refl, ap, le_of_suc-le-suc, not-suc-le-zero}
-use Rattle.std.proofs.Common.{arith, ltb-true, le-ltb, lt-ltb}
-use Rattle.std.proofs.Common.{map, ◌/◌, Bool, cond, Some, None, ltb-false, sym, ◌∙◌}
+use Rattle.std.proofs.Common.{arith, ltb-true, ltb-false, le-ltb, lt-ltb, map, ◌/◌, Bool, cond, Some, None, sym, ◌∙◌}
 use Rattle.std.specs.Prelude.{MatchOption}
 use Rattle.std.specs.List.{list_all}
 use Rattle.std.specs.Simd.{first_chunks}

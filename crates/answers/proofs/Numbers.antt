@@ -3,6 +3,9 @@
 use Rattle.std.proofs.Common.{◌≡◌, ℕ, zero, suc, ◌-◌, ◌/◌, ◌^◌, ◌<◌, ◌≤◌, min, Bool, true, false, cond}
 use Rattle.std.proofs.Common.{pos, sym, refl, ap, ◌∙◌, inl, inr, true≢false, le_of_suc-le-suc, not-suc-le-zero}
 use Rattle.std.proofs.Common.{eq-or-lt_of_le, zero-mul, arith, le→leb, eqb→eq}
+use Rattle.std.proofs.Common.{lt-ltb, ltb, ltb-true, ltb-false, subst, Option, Some, None}
+use Rattle.std.specs.Option.{unwrap_or}
+use Rattle.std.specs.Bool.{then_some}
 use mathlib.Core.Bool.{false≢true}
 use native.Mathlib.Nat.{zero-div, zero-min}
 use lib.Ieee.{Float, nan, inf, fin, binary64, eq, up, down, to_unsigned, of_int, in_float, of_bits, round, neg}
@@ -12,9 +15,6 @@ use lib.Ieee.Back.{unsigned_back}
 use lib.Ieee.Bits.{is_true}
 use Rattle.floats.specs.Arithmetic.{◌=ᶠ◌, 0ᶠ}
 use Rattle.floats.specs.Numerals.{whole}
-use Rattle.std.proofs.Common.{lt-ltb, ltb, ltb-true, ltb-false, subst, Option, Some, None}
-use Rattle.std.specs.Option.{unwrap_or}
-use Rattle.std.specs.Bool.{then_some}
 use Rattle.floats.proofs.Branches.{by_cases}
 use Rattle.floats.proofs.Compare.{equal-back}
 use Rattle.floats.proofs.Tests.{yes}

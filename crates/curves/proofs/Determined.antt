@@ -7,8 +7,8 @@ use Rattle.std.specs.Prelude.{Ok, Err}
 use Rattle.refusals.specs.Results.{Result, value, refused}
 use Rattle.floats.proofs.Determined.{determined}
 use Rattle.refusals.proofs.Determined.{with_number, number-back}
-use Rattle.curves.specs.declared.Curve.{Curve}
 use Rattle.refusals.specs.declared.Refusal.{Refusal}
+use Rattle.curves.specs.declared.Curve.{Curve}
 use Rattle.curves.specs.Told.{curve_told, NumberedSaid}
 
 read : Result Curve → Rust.Result Curve Refusal

@@ -10,9 +10,11 @@ returns c =
     ∙ named-by c.args.x _ _ c.well_formed.0.1 c.saturating_f64_to_u32-n.ensures
     (λ t. elim c.if-n-lt32.branch [
       | then-n-lt32 w ↦ (w.if-n-lt32.true, sym w.then_some-is ∙ t)
-      | else-n-lt32 w ↦ let h = ltb-true _ _ (sym w.then_some-is ∙ t) in absurd (let g = w.if-n-lt32.false in omega arith)
+      | else-n-lt32 w ↦
+          let low = ltb-true _ _ (sym w.then_some-is ∙ t) in
+          absurd (let high = w.if-n-lt32.false in omega arith)
     ])
     (λ f l. elim c.if-n-lt32.branch [
       | then-n-lt32 w ↦ sym w.then_some-is ∙ f
-      | else-n-lt32 w ↦ absurd (let h = w.if-n-lt32.false in omega arith)
+      | else-n-lt32 w ↦ absurd (let high = w.if-n-lt32.false in omega arith)
     ])
