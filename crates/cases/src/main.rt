@@ -9,43 +9,36 @@ mod searches;
 
 ghost use Rattle.case_files.specs.CaseFiles.{Short};
 
-use case_files::Field;
+use case_files::{Field, Malformed};
+use input::Window;
 use searches::{Current, Told};
 use std::io::Read;
+use std::ops::ControlFlow;
 
 // ---- a field
 
-// What the fields so far have come to: the search of the current case, how many cases there were, the place of the next
-// line, and whether a field was malformed.
+// What the fields so far have come to: the search of the current case, how many cases there were, and the place of the
+// next line.
 #[derive(Clone, Copy)]
 struct Progress {
     current: Current,
     cases: u64,
     at: usize,
-    malformed: bool,
 }
 
-fn free(at: usize, cases: u64, malformed: bool) -> Progress {
+fn free(at: usize, cases: u64) -> Progress {
     Progress {
         current: Current::Free,
         cases,
         at,
-        malformed,
     }
 }
 
-fn one_more(n: u64) -> u64 {
-    if n < 18446744073709551615 { n + 1 } else { n }
-}
-
 fn told(out: &mut [u8], at: usize, cases: u64, t: Told) -> Progress {
-    let current = t.current;
-    let outcome = t.outcome;
     Progress {
-        current,
+        current: t.current,
         cases,
-        at: lines::outcome(out, at, outcome, t.evaluations, t.iterations),
-        malformed: false,
+        at: lines::outcome(out, at, t.outcome, t.evaluations, t.iterations),
     }
 }
 
@@ -68,31 +61,27 @@ fn begun(out: &mut [u8], at: usize, cases: u64, field: Field, body: &[u8]) -> Pr
             cases,
             searches::backtracks(bodies::backtracking(body)),
         ),
-        Field::Dot(n, m) => free(on_vectors::dot(out, p, body, n, m), cases, false),
-        Field::Point(n, m, k) => free(on_vectors::point(out, p, body, n, m, k), cases, false),
-        Field::Answer => free(p, cases, false),
-        Field::Malformed => free(p, cases, false),
+        Field::Dot(n, m) => free(on_vectors::dot(out, p, body, n, m), cases),
+        Field::Point(n, m, k) => free(on_vectors::point(out, p, body, n, m, k), cases),
+        Field::Answer => free(p, cases),
     }
 }
 
-// The field with which s begins, at byte b of the input. All but an answer end the case before.
-fn served(out: &mut [u8], s: &[u8], progress: Progress, b: u64) -> Progress {
-    let current = progress.current;
+// The field with which s begins, at byte b of the input. All but an answer end the case before. A malformed one ends
+// the run: the place of the next line is left.
+fn served(out: &mut [u8], s: &[u8], progress: Progress, b: u64) -> ControlFlow<usize, Progress> {
+    let Progress { current, cases, at } = progress;
     let body = fields::body(s);
-    let field = case_files::read(s, searches::searching(current));
-    if let Field::Answer = field {
-        return told(
-            out,
-            progress.at,
-            progress.cases,
-            searches::answered(current, bodies::answer(body)),
-        );
+    let field = case_files::read(s, current.is_searching());
+    if let Ok(Field::Answer) = field {
+        let answered = searches::answered(current, bodies::answer(body));
+        return ControlFlow::Continue(told(out, at, cases, answered));
     }
-    let p = searches::closed(out, progress.at, current);
-    if let Field::Malformed = field {
-        return free(case_lines::malformed(out, p, b), progress.cases, true);
+    let p = searches::closed(out, at, current);
+    match field {
+        Ok(field) => ControlFlow::Continue(begun(out, p, cases.saturating_add(1), field, body)),
+        Err(Malformed) => ControlFlow::Break(case_lines::malformed(out, p, b)),
     }
-    begun(out, p, one_more(progress.cases), field, body)
 }
 
 // ---- the run
@@ -100,21 +89,15 @@ fn served(out: &mut [u8], s: &[u8], progress: Progress, b: u64) -> Progress {
 // While more may come a field is served only where it is decided. Before the program waits for more it writes out all
 // that is told, so that whoever asks over a pipe gets the answer. Each field finds room for its lines. Where a
 // write or a read failed nothing more is told: no case is closed, since none has ended. A proved loop has to end, and
-// nothing says that an input does: it counts its turns down.
+// nothing says that an input does: it counts its turns.
 fn run(rt: &(impl Print + Eprint), stdin: &mut impl Read, buf: &mut [u8], out: &mut [u8]) {
-    let mut progress = free(0, 0, false);
+    let mut progress = free(0, 0);
     let mut sent = streams::nothing_sent();
-    let mut window = input::opened();
-    let mut turns: u64 = 18446744073709551615;
-    while 0 < turns {
-        turns -= 1;
-        if progress.malformed {
-            break;
-        }
-        let from = window.from;
-        let to = window.to;
-        let waits = !window.ended & !input::is_decided(&buf[from..to]);
-        if waits | (50000 <= progress.at) {
+    let mut window = Window::default();
+    for _ in 0..u64::MAX {
+        let Window { from, to, .. } = window;
+        let waits = !window.ended && !input::is_decided(&buf[from..to]);
+        if waits || 50000 <= progress.at {
             sent = streams::send(rt, sent, out, progress.at);
             progress.at = 0;
             if sent.lost {
@@ -122,25 +105,26 @@ fn run(rt: &(impl Print + Eprint), stdin: &mut impl Read, buf: &mut [u8], out: &
             }
         }
         if waits {
-            window = input::refilled(rt, stdin, buf, window);
-            if window.lost {
+            let Some(refilled) = input::refilled(rt, stdin, buf, window) else {
                 return;
-            }
+            };
+            window = refilled;
             continue;
         }
-        if to <= from {
+        if from == to {
             break;
         }
-        progress = served(
-            out,
-            &buf[from..to],
-            progress,
-            input::place(window.base, from),
-        );
-        window.from = input::beyond(buf, from, to);
+        let b = input::place(window.base, from);
+        match served(out, &buf[from..to], progress, b) {
+            ControlFlow::Continue(next) => progress = next,
+            ControlFlow::Break(at) => {
+                streams::send(rt, sent, out, at);
+                return;
+            }
+        }
+        window.from += fields::end(&buf[from..to]);
     }
-    let current = progress.current;
-    let at = searches::closed(out, progress.at, current);
+    let at = searches::closed(out, progress.at, progress.current);
     streams::send(rt, sent, out, at);
 }
 

@@ -16,12 +16,10 @@ pub(crate) enum Current {
     Backtracks(Backtracking),
 }
 
-pub(crate) fn searching(current: Current) -> bool {
-    match current {
-        Current::Free => false,
-        Current::NoSearch => true,
-        Current::HagerZhang(_) => true,
-        Current::Backtracks(_) => true,
+impl Current {
+    // Whether an answer may come.
+    pub(crate) fn is_searching(self) -> bool {
+        !matches!(self, Current::Free)
     }
 }
 
@@ -87,8 +85,7 @@ pub(crate) fn backtracks(b: BacktrackingStart) -> Told {
 // malformed, and never comes here.
 pub(crate) fn answered(current: Current, y: Reply) -> Told {
     match current {
-        Current::Free => refused(Refusal::AlreadyOver),
-        Current::NoSearch => refused(Refusal::AlreadyOver),
+        Current::Free | Current::NoSearch => refused(Refusal::AlreadyOver),
         Current::HagerZhang(s) => from_hager_zhang(hagerzhang::answer(s, y.cost, y.slope)),
         Current::Backtracks(s) => from_backtracking(backtracking::answer(s, y.cost, y.slope)),
     }
