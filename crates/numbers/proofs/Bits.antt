@@ -1,17 +1,16 @@
 -- 02, request 5: the exponent bits decide whether a float is finite (`by-exponent-bits`). 01, "Absolute value clears
--- the sign bit", as a fact of the 64 bits (`abs-clears`). What a float's comparison with itself says. The patterns
--- above that of the infinity are the NaN's (`nan_above`). Assumes nothing.
+-- the sign bit", as a fact of the 64 bits (`abs-clears`). What a float's comparison with itself says. Assumes
+-- nothing.
 use mathlib.Core.Path.{◌≡◌, refl, sym, ap, ◌∙◌, subst}
 use Prim.Native.Nat.{ℕ, zero, suc, ◌+◌, ◌/◌, ◌%◌, ◌<◌}
 use native.Mathlib.Nat.{mod-lt, mod-mod, mod-mod_of_dvd, dvd-mul_right, div-lt_iff_lt-mul}
 use native.Mathlib.Omega.{arith}
 use mathlib.Core.Bool.{Bool, true, false, not, cond, false≢true}
 use lib.Dec.{T, leb, ltb, eqb, lit<}
-use lib.Ieee.{Float, nan, inf, fin, binary64, low, hid, top, odd, of_fields, of_bits, is_nan, eq, ne, div}
-use lib.Ieee.Bits.{nan_bits_is, nan_bits_above}
+use lib.Ieee.{Float, nan, inf, fin, binary64, low, hid, top, odd, of_fields, of_bits, is_nan, eq, ne}
 use lib.Ieee.Compare.{differs_from_itself}
 use lib.Ieee.Scale.{finite}
-use borrow.Author.Tests.{lt-leb, lt-ltb, ltb-true, ltb-false, eq-eqb, ne_eqb}
+use borrow.Author.Tests.{lt-leb, ltb-true, ltb-false, eq-eqb, ne_eqb}
 use Rattle.numbers.specs.Numbers.{abs_of, exponent_bits, ByExponentBits}
 
 -- ---- the exponent bits
@@ -84,20 +83,3 @@ equals_itself (fin s m e') e = tt
 pub unlike-itself : (x : Float) → eq x x ≡ false → x ≡ nan
 unfolding ne
 unlike-itself x e = differs_from_itself x (subst (λ (b : Bool). T (not b)) (sym e) tt)
-
--- ---- the patterns above that of the infinity, the sign apart: 0 by 0 gives the NaN too
-nan_is : (x : Float) → is_nan x ≡ true → nan ≡ x
-unfolding is_nan
-nan_is nan p = refl
-nan_is (inf s) p = absurd (false≢true p)
-nan_is (fin s m e) p = absurd (false≢true p)
-
-zero_by_zero : div binary64 (of_bits binary64 0) (of_bits binary64 0) ≡ nan
-unfolding div of_bits
-zero_by_zero = refl
-
-pub nan_above : (w : ℕ) → 0x7ff0_0000_0000_0000 < w % 0x8000_0000_0000_0000
-    → div binary64 (of_bits binary64 0) (of_bits binary64 0) ≡ of_bits binary64 w
-nan_above w h =
-    zero_by_zero
-    ∙ nan_is (of_bits binary64 w) (sym (nan_bits_is binary64 w) ∙ nan_bits_above binary64 w ∙ lt-ltb _ _ h)

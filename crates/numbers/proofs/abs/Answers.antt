@@ -8,9 +8,6 @@ use Rattle.numbers.specs.Numbers.{abs_of}
 use Rattle.numbers.proofs.Bits.{equals_itself, unlike-itself, abs-clears, abs-no-nan}
 use Rattle.numbers.proofs.abs.Goals as goal
 
-pub float_to_bits-result : goal.float_to_bits-result
-float_to_bits-result c = equals_itself c.args.x c.if-x.true
-
 pub returns-then-x : goal.returns-then-x
 returns-then-x c =
     let x = c.args.x in

@@ -5,11 +5,8 @@ use lib.Dec.{T}
 use lib.Ieee.{binary64}
 use lib.Ieee.Bits.{of_bits-to_bits}
 use lib.Ieee.Scale.{finite}
-use Rattle.numbers.proofs.Bits.{equals_itself, unlike-itself}
+use Rattle.numbers.proofs.Bits.{unlike-itself}
 use Rattle.numbers.proofs.is_finite.Goals as goal
-
-pub float_to_bits-x : goal.float_to_bits-x
-float_to_bits-x c = equals_itself c.args.x c.if-x.true
 
 pub returns-then-x : goal.returns-then-x
 returns-then-x c =
