@@ -5,9 +5,9 @@
 #![tactic(auto)]
 
 use curves::Curve;
-use hagerzhang::{Kept, Search, Stage, Started};
+use hagerzhang::{Search, Stage};
 use hagerzhang_rules::{Bounds, Options, Params, Setup, Way};
-use runs::{Evaluations, Outcome};
+use runs::{Evaluations, Machine, Outcome};
 use std::io::Write;
 use std::rt::Env;
 
@@ -53,8 +53,8 @@ fn search_on(c: Curve) -> Search {
     let f0 = c.value(0.0);
     let s0 = c.slope(0.0);
     match hagerzhang::start(options, f0, s0) {
-        Started::Began(turn) => turn.search,
-        Started::NoSearch(_) => Search {
+        Ok(turn) => turn.search,
+        Err(_) => Search {
             setup: Setup {
                 options,
                 f0,
@@ -62,7 +62,7 @@ fn search_on(c: Curve) -> Search {
                 level: f0,
             },
             evaluations: Evaluations(0),
-            stage: Stage::Over(Kept::NoneYet),
+            stage: Stage::Over(None),
         },
     }
 }
@@ -74,7 +74,7 @@ fn play(n: u32, from: Tally) -> Tally {
     let mut x = 0.0;
     let mut sum = from.sum;
     for left in (0..from.left).rev() {
-        let turn = hagerzhang::answer(s, c.value(x), c.slope(x));
+        let turn = s.answer(c.value(x), c.slope(x));
         s = turn.search;
         let end = match turn.outcome {
             Outcome::Ask(y) => {

@@ -44,15 +44,11 @@ pub(crate) fn refilled(
     let base = place(window.base, window.from);
     let left = window.to - window.from;
     buf.copy_within(window.from..window.to, 0);
-    let (more, ended) = match streams::receive(rt, input, &mut buf[left..], place(base, left)) {
-        Received::Bytes(n) => (n, false),
-        Received::End => (0, true),
-        Received::Failed => return None,
-    };
+    let more = streams::receive(rt, input, &mut buf[left..], place(base, left)).ok()?;
     Some(Window {
         base,
         from: 0,
-        to: left + more,
-        ended,
+        to: left + more.unwrap_or(0),
+        ended: more.is_none(),
     })
 }

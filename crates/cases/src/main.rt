@@ -13,74 +13,65 @@ use case_files::{Field, Malformed};
 use input::Window;
 use searches::{Current, Told};
 use std::io::Read;
-use std::ops::ControlFlow;
+use text::Cursor;
 
 // ---- a field
 
-// What the fields so far have come to: the search of the current case, how many cases there were, and the place of the
-// next line.
+// What the fields so far have come to: the search of the current case, and how many cases there were.
 #[derive(Clone, Copy)]
 struct Progress {
     current: Current,
     cases: u64,
-    at: usize,
 }
 
-fn free(at: usize, cases: u64) -> Progress {
-    Progress {
-        current: Current::Free,
-        cases,
-        at,
-    }
+fn told(page: &mut Cursor, t: Told) -> Current {
+    lines::outcome(page, t.outcome, t.counts);
+    t.current
 }
 
-fn told(out: &mut [u8], at: usize, cases: u64, t: Told) -> Progress {
-    Progress {
-        current: t.current,
-        cases,
-        at: lines::outcome(out, at, t.outcome, t.evaluations, t.iterations),
-    }
-}
-
-// The first field of the case with this number. The others do not begin one, and never come here.
-fn begun(out: &mut [u8], at: usize, cases: u64, field: Field, body: &[u8]) -> Progress
+// The first field of the case with this number, and the search that it begins. The others do not begin a case, and
+// never come here.
+fn begun(page: &mut Cursor, cases: u64, field: Field, body: &[u8]) -> Current
     requires { Short field }
 {
-    let p = case_lines::head(out, at, cases);
+    case_lines::head(page, cases);
     match field {
-        Field::StartWhole => told(out, p, cases, searches::hager_zhang(bodies::whole(body))),
-        Field::StartHagerZhang => told(
-            out,
-            p,
-            cases,
-            searches::hager_zhang(bodies::hager_zhang(body)),
-        ),
-        Field::StartBacktracking => told(
-            out,
-            p,
-            cases,
-            searches::backtracks(bodies::backtracking(body)),
-        ),
-        Field::Dot(n, m) => free(on_vectors::dot(out, p, body, n, m), cases),
-        Field::Point(n, m, k) => free(on_vectors::point(out, p, body, n, m, k), cases),
-        Field::Answer => free(p, cases),
+        Field::StartWhole => told(page, searches::hager_zhang(bodies::whole(body))),
+        Field::StartHagerZhang => told(page, searches::hager_zhang(bodies::hager_zhang(body))),
+        Field::StartBacktracking => told(page, searches::backtracks(bodies::backtracking(body))),
+        Field::Dot(n, m) => {
+            on_vectors::dot(page, body, n, m);
+            Current::Free
+        }
+        Field::Point(n, m, k) => {
+            on_vectors::point(page, body, n, m, k);
+            Current::Free
+        }
+        Field::Answer => Current::Free,
     }
 }
 
-// The field with which s begins, at byte b of the input. All but an answer end the case before. A malformed one ends
-// the run: the place of the next line is left.
-fn served(out: &mut [u8], s: &[u8], progress: Progress, b: u64) -> ControlFlow<usize, Progress> {
-    let Progress { current, cases, at } = progress;
+// The field with which s begins, at byte b of the input. All but an answer end the case before. Nothing is left where
+// it is malformed, which ends the run.
+fn served(page: &mut Cursor, s: &[u8], progress: Progress, b: u64) -> Option<Progress> {
+    let Progress { current, cases } = progress;
     let body = fields::body(s);
     let field = case_files::read(s, current.is_searching());
     if let Ok(Field::Answer) = field {
-        let answered = searches::answered(current, bodies::answer(body));
-        return ControlFlow::Continue(told(out, at, cases, answered));
+        let current = told(page, searches::answered(current, bodies::answer(body)));
+        return Some(Progress { current, cases });
     }
-    let p = searches::closed(out, at, current);
+    searches::closed(page, current);
     match field {
-        Ok(field) => ControlFlow::Continue(begun(out, p, cases.saturating_add(1), field, body)),
-        Err(Malformed) => ControlFlow::Break(case_lines::malformed(out, p, b)),
+        Ok(field) => {
+            let cases = cases.saturating_add(1);
+            let current = begun(page, cases, field, body);
+            Some(Progress { current, cases })
+        }
+        Err(Malformed) => {
+            case_lines::malformed(page, b);
+            None
+        }
     }
 }
 
@@ -91,15 +82,19 @@ fn served(out: &mut [u8], s: &[u8], progress: Progress, b: u64) -> ControlFlow<u
 // write or a read failed nothing more is told: no case is closed, since none has ended. A proved loop has to end, and
 // nothing says that an input does: it counts its turns.
 fn run(rt: &(impl Print + Eprint), stdin: &mut impl Read, buf: &mut [u8], out: &mut [u8]) {
-    let mut progress = free(0, 0);
+    let mut progress = Progress {
+        current: Current::Free,
+        cases: 0,
+    };
+    let mut at = 0;
     let mut sent = streams::nothing_sent();
     let mut window = Window::default();
     for _ in 0..u64::MAX {
         let Window { from, to, .. } = window;
         let waits = !window.ended && !input::is_decided(&buf[from..to]);
-        if waits || 50000 <= progress.at {
-            sent = streams::send(rt, sent, out, progress.at);
-            progress.at = 0;
+        if waits || 50000 <= at {
+            sent = streams::send(rt, sent, out, at);
+            at = 0;
             if sent.lost {
                 return;
             }
@@ -115,17 +110,20 @@ fn run(rt: &(impl Print + Eprint), stdin: &mut impl Read, buf: &mut [u8], out: &
             break;
         }
         let b = input::place(window.base, from);
-        match served(out, &buf[from..to], progress, b) {
-            ControlFlow::Continue(next) => progress = next,
-            ControlFlow::Break(at) => {
-                streams::send(rt, sent, out, at);
-                return;
-            }
-        }
+        let mut page = Cursor { buffer: out, at };
+        let next = served(&mut page, &buf[from..to], progress, b);
+        at = page.at;
+        let Some(next) = next else {
+            streams::send(rt, sent, out, at);
+            return;
+        };
+        progress = next;
         window.from += fields::end(&buf[from..to]);
     }
-    let at = searches::closed(out, progress.at, progress.current);
-    streams::send(rt, sent, out, at);
+    let mut page = Cursor { buffer: out, at };
+    searches::closed(&mut page, progress.current);
+    let n = page.at;
+    streams::send(rt, sent, out, n);
 }
 
 fn main(rt: HostRuntime) {

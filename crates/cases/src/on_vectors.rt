@@ -2,9 +2,9 @@
 
 ghost use Rattle.std.specs.Prelude.{◌≤◌};
 
-use vectors::{DotResult, PointResult};
+use text::Cursor;
 
-pub(crate) fn dot(out: &mut [u8], at: usize, body: &[u8], n: usize, m: usize) -> usize
+pub(crate) fn dot(page: &mut Cursor, body: &[u8], n: usize, m: usize)
     requires { (n ≤ 511) × (m ≤ 511) }
 {
     let mut a = [0.0; 511];
@@ -14,13 +14,13 @@ pub(crate) fn dot(out: &mut [u8], at: usize, body: &[u8], n: usize, m: usize) ->
     bodies::floats(body, 4, a);
     bodies::floats(body, 4 + 8 * n, b);
     match vectors::dot(a, b) {
-        DotResult::Value(v) => case_lines::value(out, at, v),
-        DotResult::Refused(k) => case_lines::fault(out, at, k),
+        Ok(v) => case_lines::value(page, v),
+        Err(refusal) => case_lines::fault(page, refusal),
     }
 }
 
 // The buffer is filled before the call, so that it shows what the call wrote.
-pub(crate) fn point(out: &mut [u8], at: usize, body: &[u8], n: usize, m: usize, k: usize) -> usize
+pub(crate) fn point(page: &mut Cursor, body: &[u8], n: usize, m: usize, k: usize)
     requires { (n ≤ 511) × (m ≤ 511) × (k ≤ 511) }
 {
     let infinity = numbers::float_of(0x7ff0_0000_0000_0000);
@@ -33,9 +33,9 @@ pub(crate) fn point(out: &mut [u8], at: usize, body: &[u8], n: usize, m: usize, 
     bodies::floats(body, 14, x0);
     bodies::floats(body, 14 + 8 * n, d);
     let alpha = wire::float(wire::from(body, 6));
-    let p = match vectors::point(x0, alpha, d, buffer) {
-        PointResult::Written => text::word(out, at, b"POINT\n"),
-        PointResult::Untouched(refusal) => case_lines::fault(out, at, refusal),
-    };
-    case_lines::buffer(out, p, buffer)
+    match vectors::point(x0, alpha, d, buffer) {
+        Ok(()) => page.word(b"POINT\n"),
+        Err(refusal) => case_lines::fault(page, refusal),
+    }
+    case_lines::buffer(page, buffer);
 }

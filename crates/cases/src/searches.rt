@@ -4,7 +4,8 @@ use backtracking::Backtracking;
 use bodies::{BacktrackingStart, HagerZhangStart, Reply};
 use hagerzhang::Search;
 use refusals::Refusal;
-use runs::{Evaluations, Iterations, Outcome};
+use runs::{Counts, Evaluations, Iterations, Machine, Outcome, Turn};
+use text::Cursor;
 
 #[derive(Clone, Copy)]
 pub(crate) enum Current {
@@ -28,56 +29,44 @@ impl Current {
 pub(crate) struct Told {
     pub(crate) current: Current,
     pub(crate) outcome: Outcome,
-    pub(crate) evaluations: Evaluations,
-    pub(crate) iterations: Iterations,
+    pub(crate) counts: Counts,
 }
+
+const NOTHING: Counts = Counts {
+    evaluations: Evaluations(0),
+    iterations: Iterations(0),
+};
 
 fn refused(r: Refusal) -> Told {
     Told {
         current: Current::NoSearch,
         outcome: Outcome::Refused(r),
-        evaluations: Evaluations(0),
-        iterations: Iterations(0),
+        counts: NOTHING,
     }
 }
 
-fn from_hager_zhang(turn: hagerzhang::Turn) -> Told {
-    let outcome = turn.outcome;
-    let s = turn.search;
-    let evaluations = s.evaluations;
-    let kept = hagerzhang::held(s);
+// A turn of either kind; `kind` is the case of `Current` that its search is.
+fn turned<M: Machine, K: FnOnce(M) -> Current>(t: Turn<M>, kind: K) -> Told
+    requires { K.IsAlwaysCallable kind }
+{
     Told {
-        current: Current::HagerZhang(s),
-        outcome,
-        evaluations,
-        iterations: kept.iterations(),
-    }
-}
-
-fn from_backtracking(turn: backtracking::Turn) -> Told {
-    let outcome = turn.outcome;
-    let s = turn.search;
-    let evaluations = s.evaluations;
-    let iterations = s.iterations;
-    Told {
-        current: Current::Backtracks(s),
-        outcome,
-        evaluations,
-        iterations,
+        current: kind(t.search),
+        outcome: t.outcome,
+        counts: t.search.counts(),
     }
 }
 
 pub(crate) fn hager_zhang(b: HagerZhangStart) -> Told {
     match hagerzhang::start(b.options, b.f0, b.s0) {
-        hagerzhang::Started::Began(turn) => from_hager_zhang(turn),
-        hagerzhang::Started::NoSearch(r) => refused(r),
+        Ok(t) => turned(t, Current::HagerZhang),
+        Err(r) => refused(r),
     }
 }
 
 pub(crate) fn backtracks(b: BacktrackingStart) -> Told {
     match backtracking::start(b.options, b.f0, b.s0) {
-        backtracking::Started::Began(turn) => from_backtracking(turn),
-        backtracking::Started::NoSearch(r) => refused(r),
+        Ok(t) => turned(t, Current::Backtracks),
+        Err(r) => refused(r),
     }
 }
 
@@ -86,17 +75,17 @@ pub(crate) fn backtracks(b: BacktrackingStart) -> Told {
 pub(crate) fn answered(current: Current, y: Reply) -> Told {
     match current {
         Current::Free | Current::NoSearch => refused(Refusal::AlreadyOver),
-        Current::HagerZhang(s) => from_hager_zhang(hagerzhang::answer(s, y.cost, y.slope)),
-        Current::Backtracks(s) => from_backtracking(backtracking::answer(s, y.cost, y.slope)),
+        Current::HagerZhang(s) => turned(s.answer(y.cost, y.slope), Current::HagerZhang),
+        Current::Backtracks(s) => turned(s.answer(y.cost, y.slope), Current::Backtracks),
     }
 }
 
 // The closing lines.
-pub(crate) fn closed(out: &mut [u8], at: usize, current: Current) -> usize {
+pub(crate) fn closed(page: &mut Cursor, current: Current) {
     match current {
-        Current::Free => at,
-        Current::NoSearch => lines::no_bracket(out, at, Evaluations(0), Iterations(0)),
-        Current::HagerZhang(s) => lines::closing(out, at, s),
-        Current::Backtracks(s) => lines::no_bracket(out, at, s.evaluations, s.iterations),
+        Current::Free => {}
+        Current::NoSearch => lines::no_bracket(page, NOTHING),
+        Current::HagerZhang(s) => lines::closing(page, s),
+        Current::Backtracks(s) => lines::no_bracket(page, s.counts()),
     }
 }

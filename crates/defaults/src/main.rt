@@ -5,34 +5,30 @@
 
 use conditions::Condition;
 use hagerzhang_rules::{Bounds, Way};
+use text::Cursor;
 
 // A line for each float, with its name.
-fn floats(out: &mut [u8], at: usize, named: &[(&[u8], f64)]) -> usize {
-    let mut next = at;
+fn floats(page: &mut Cursor, named: &[(&[u8], f64)]) {
     for (name, x) in named {
-        next = text::floats_line(out, next, name, &[*x]);
+        page.floats_line(name, &[*x]);
     }
-    next
 }
 
-fn way(out: &mut [u8], at: usize, w: Way) -> usize {
+fn way(page: &mut Cursor, w: Way) {
     match w {
-        Way::Bounded(Bounds { min, max }) => floats(
-            out,
-            at,
-            &[(b"hagerzhang min", min), (b"hagerzhang max", max)],
-        ),
-        Way::Growing(k) => text::number_line(out, at, b"hagerzhang K ", u64::from(k)),
+        Way::Bounded(Bounds { min, max }) => {
+            floats(page, &[(b"hagerzhang min", min), (b"hagerzhang max", max)])
+        }
+        Way::Growing(k) => page.number_line(b"hagerzhang K ", u64::from(k)),
     }
 }
 
 // No rule reads eta.
-fn hager_zhang(out: &mut [u8], at: usize) -> usize {
+fn hager_zhang(page: &mut Cursor) {
     let o = hagerzhang_parameters::defaults();
     let p = o.params;
-    let a = floats(
-        out,
-        at,
+    floats(
+        page,
         &[
             (b"hagerzhang delta", p.delta),
             (b"hagerzhang sigma", p.sigma),
@@ -42,29 +38,30 @@ fn hager_zhang(out: &mut [u8], at: usize) -> usize {
             (b"hagerzhang eta", p.eta),
         ],
     );
-    let b = way(out, a, o.way);
-    let c = floats(out, b, &[(b"hagerzhang start", p.start)]);
-    let d = text::number_line(out, c, b"hagerzhang B ", u64::from(o.budget));
-    text::number_line(out, d, b"hagerzhang N ", u64::from(o.limit))
+    way(page, o.way);
+    floats(page, &[(b"hagerzhang start", p.start)]);
+    page.number_line(b"hagerzhang B ", u64::from(o.budget));
+    page.number_line(b"hagerzhang N ", u64::from(o.limit));
 }
 
 // A condition has no default: whichever is given is handed on.
-fn backtracks(out: &mut [u8], at: usize) -> usize {
+fn backtracks(page: &mut Cursor) {
     let o = backtracking::defaults(Condition::Armijo { c: 0.5 });
-    let a = floats(
-        out,
-        at,
+    floats(
+        page,
         &[
             (b"backtracking rho", o.rho),
             (b"backtracking alpha", o.alpha),
         ],
     );
-    text::number_line(out, a, b"backtracking N ", u64::from(o.limit))
+    page.number_line(b"backtracking N ", u64::from(o.limit));
 }
 
 fn main(rt: HostRuntime) {
-    let mut page = [0u8; 4096];
-    let p = hager_zhang(&mut page, 0);
-    let n = backtracks(&mut page, p);
-    streams::send(&rt, streams::nothing_sent(), &page, n);
+    let mut buffer = [0u8; 4096];
+    let mut page = Cursor::new(&mut buffer);
+    hager_zhang(&mut page);
+    backtracks(&mut page);
+    let n = page.at;
+    streams::send(&rt, streams::nothing_sent(), &buffer, n);
 }

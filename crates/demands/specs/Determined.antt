@@ -22,7 +22,7 @@ use Rattle.backtracking.specs.declared.Backtracking.{Backtracking}
 use Rattle.backtracking.specs.Machine as trials
 use Rattle.hagerzhang_rules.specs.declared.Options.{Options}
 use Rattle.hagerzhang.specs.declared.state.Search.{Search}
-use Rattle.hagerzhang.specs.declared.state.Turn.{Turn}
+use Rattle.hagerzhang.specs.Machine.{Turn}
 use Rattle.hagerzhang.specs.Machine.{StartSaid, AnswerSaid}
 use Rattle.answers.specs.Answers.{CheckedSaid as ListSaid}
 use Rattle.tables.specs.declared.Table.{Table}

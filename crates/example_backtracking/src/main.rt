@@ -3,10 +3,12 @@
 
 #![tactic(auto)]
 
-use backtracking::{Started, Turn};
-use conditions::{Checked, Condition};
-use runs::Outcome;
+use backtracking::Turn;
+use conditions::Condition;
+use refusals::Refusal;
+use runs::{Machine, Outcome};
 use streams::Sent;
+use text::Cursor;
 
 // ---- the model: a fan's power over its speed, 1 - 2x + 4x^2 from the present speed on
 
@@ -21,18 +23,21 @@ fn slope(x: f64) -> f64 {
 // ---- the search
 
 // `sent` goes from line to line: behind a write that failed nothing more is written.
-fn print_refused(rt: &(impl Print + Eprint), number: u32, sent: Sent) -> Sent {
-    let mut line = [0u8; 80];
-    let n = lines::refused(&mut line, 0, number);
-    streams::send(rt, sent, &line, n)
+fn print_refused(rt: &(impl Print + Eprint), refusal: Refusal, sent: Sent) -> Sent {
+    let mut buffer = [0u8; 80];
+    let mut line = Cursor::new(&mut buffer);
+    lines::refused(&mut line, refusal.number());
+    let n = line.at;
+    streams::send(rt, sent, &buffer, n)
 }
 
 // The line of what the search says, with its evaluations and iterations.
 fn print_turn(rt: &(impl Print + Eprint), t: Turn, sent: Sent) -> Sent {
-    let s = t.search;
-    let mut line = [0u8; 80];
-    let n = lines::outcome(&mut line, 0, t.outcome, s.evaluations, s.iterations);
-    streams::send(rt, sent, &line, n)
+    let mut buffer = [0u8; 80];
+    let mut line = Cursor::new(&mut buffer);
+    lines::turn(&mut line, t);
+    let n = line.at;
+    streams::send(rt, sent, &buffer, n)
 }
 
 // The model answers each step that is asked, until the search ends. It ends by itself, long before the count does: a
@@ -45,23 +50,22 @@ fn answer_all(rt: &(impl Print + Eprint), first: Turn, before: Sent) -> Sent {
         let Outcome::Ask(x) = t.outcome else {
             break;
         };
-        t = backtracking::answer(t.search, power(x), slope(x));
+        t = t.search.answer(power(x), slope(x));
     }
     sent
 }
 
-fn backtrack(rt: &(impl Print + Eprint), condition: Condition, sent: Sent) -> Sent {
-    match backtracking::start(backtracking::defaults(condition), power(0.0), slope(0.0)) {
-        Started::Began(first) => answer_all(rt, first, sent),
-        Started::NoSearch(refusal) => print_refused(rt, refusal.number(), sent),
-    }
+// The first turn of the search, or why there is none: the condition's constants are bad, or the start is.
+fn started(condition: Condition) -> Result<Turn, Refusal> {
+    let fit = condition.checked()?;
+    backtracking::start(backtracking::defaults(fit), power(0.0), slope(0.0))
 }
 
 // A condition whose constants are in their ranges is searched with; another one is refused.
 fn try_condition(rt: &(impl Print + Eprint), condition: Condition, sent: Sent) -> Sent {
-    match condition.checked() {
-        Checked::Fit(fit) => backtrack(rt, fit, sent),
-        Checked::Unfit(refusal) => print_refused(rt, refusal.number(), sent),
+    match started(condition) {
+        Ok(first) => answer_all(rt, first, sent),
+        Err(refusal) => print_refused(rt, refusal, sent),
     }
 }
 

@@ -3,10 +3,11 @@
 
 #![tactic(auto)]
 
-use hagerzhang::{Started, Turn};
+use hagerzhang::Turn;
 use hagerzhang_rules::{Bounds, Options, Params, Way};
-use runs::Outcome;
+use runs::{Machine, Outcome};
 use streams::Sent;
+use text::Cursor;
 
 // ---- the plant
 
@@ -52,10 +53,11 @@ fn options() -> Options {
 // The line of what the search says, with its evaluations and finished iterations. `sent` goes from line to line: behind
 // a write that failed nothing more is written.
 fn print_turn(rt: &(impl Print + Eprint), t: Turn, sent: Sent) -> Sent {
-    let iterations = hagerzhang::held(t.search).iterations();
-    let mut line = [0u8; 80];
-    let n = lines::outcome(&mut line, 0, t.outcome, t.search.evaluations, iterations);
-    streams::send(rt, sent, &line, n)
+    let mut buffer = [0u8; 80];
+    let mut line = Cursor::new(&mut buffer);
+    lines::turn(&mut line, t);
+    let n = line.at;
+    streams::send(rt, sent, &buffer, n)
 }
 
 // The model answers each step that is asked, until the search ends. It ends by itself, long before the count does: a
@@ -68,7 +70,7 @@ fn answer_all(rt: &(impl Print + Eprint), p: Plant, first: Turn, before: Sent) -
         let Outcome::Ask(x) = t.outcome else {
             break;
         };
-        t = hagerzhang::answer(t.search, p.power(x), p.slope(x));
+        t = t.search.answer(p.power(x), p.slope(x));
     }
     sent
 }
@@ -76,11 +78,13 @@ fn answer_all(rt: &(impl Print + Eprint), p: Plant, first: Turn, before: Sent) -
 // A start may be refused too: then there is no search, and the number says why.
 fn optimise(rt: &(impl Print + Eprint), p: Plant, sent: Sent) -> Sent {
     match hagerzhang::start(options(), p.power(0.0), p.slope(0.0)) {
-        Started::Began(first) => answer_all(rt, p, first, sent),
-        Started::NoSearch(refusal) => {
-            let mut line = [0u8; 80];
-            let n = lines::refused(&mut line, 0, refusal.number());
-            streams::send(rt, sent, &line, n)
+        Ok(first) => answer_all(rt, p, first, sent),
+        Err(refusal) => {
+            let mut buffer = [0u8; 80];
+            let mut line = Cursor::new(&mut buffer);
+            lines::refused(&mut line, refusal.number());
+            let n = line.at;
+            streams::send(rt, sent, &buffer, n)
         }
     }
 }

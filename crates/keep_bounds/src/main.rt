@@ -5,6 +5,7 @@
 
 use std::io::Read;
 use streams::Sent;
+use text::Cursor;
 
 // What is behind the first bytes, as it comes. All that was read was written, so both have the same count. A proved
 // loop has to end, and nothing says that an input does: so it has a number of turns.
@@ -24,9 +25,11 @@ fn pass_on(rt: &(impl Print + Eprint), input: &mut impl Read, before: Sent) {
 
 // The first bytes, and where there are 56, what is behind them: the longest job has 55, so more than these are none.
 fn run(rt: &(impl Print + Eprint), input: &mut impl Read, first: &[u8]) {
-    let mut page = [0u8; 56];
-    let n = stored_jobs::with_bounds(&mut page, 0, first);
-    let sent = streams::send(rt, streams::nothing_sent(), &page, n);
+    let mut buffer = [0u8; 56];
+    let mut page = Cursor::new(&mut buffer);
+    stored_jobs::with_bounds(&mut page, first);
+    let n = page.at;
+    let sent = streams::send(rt, streams::nothing_sent(), &buffer, n);
     if first.len() == 56 {
         pass_on(rt, input, sent);
     }

@@ -13,7 +13,8 @@ use Rattle.std.specs.Prelude.{Option, Some, None}
 use Rattle.floats.proofs.Branches.{by_cases}
 use Rattle.runs.specs.Outcomes.{Word, met, wolfe, approximate, stop, limit, refusal, Told, asks, ends}
 use Rattle.curves.specs.declared.Curve.{Curve}
-use Rattle.hagerzhang.specs.declared.state.Turn.{Turn}
+use Rattle.hagerzhang.specs.Machine.{Turn}
+use Rattle.text.specs.declared.Cursor.{Cursor}
 use Rattle.text.specs.Text.{Page, page, put, write, Writes, decimal_up_to}
 use Rattle.lines.specs.Lines.{verdict_text, outcome_line}
 use Rattle.play.specs.Telling.{Said, text_of}
@@ -74,13 +75,15 @@ written held at (b ∷ t) room =
     (rw n (more.0, more.1 ∙ ap (λ (l : List ℕ). l ++ t) first ∙ append_snoc (take at held) b t))
 
 -- what is written from the front of the program's buffer is the text of these turns, with nothing cut off
-pub whole-lines : (c : Curve) (p : Option Turn) (n : ℕ) (before after : List ℕ) (at : ℕ) → n ≤ 512
-    → 65536 ≤ length before
-    → Writes before 0 (text_of (said_in n c p)) after at → take at after ≡ text_of (said_in n c p)
-whole-lines c p n before after at few room e =
+pub whole-lines : (c : Curve) (p : Option Turn) (n : ℕ) (before after : Cursor) → n ≤ 512 → before.at ≡ 0
+    → 65536 ≤ length before.buffer.now → Writes before (text_of (said_in n c p)) after
+    → take after.at after.buffer.now ≡ text_of (said_in n c p)
+whole-lines c p n before after few front room wrote =
     let text = text_of (said_in n c p) in
-    let fits : 0 + length text ≤ length before = omega (arith, short-text (said_in n c p), few-said n c p) in
-    let w = written before 0 text fits in
-    let place : at ≡ 0 + length text = ap (λ (q : Page). q.at) e ∙ w.0 in
-    let held : after ≡ (write (page before 0) text).held = ap (λ (q : Page). q.held) e in
-    rw (place, held) w.1
+    let held = before.buffer.now in
+    let fits : 0 + length text ≤ length held = omega (arith, short-text (said_in n c p), few-said n c p) in
+    let w = written held 0 text fits in
+    let e : page after.buffer.now after.at ≡ write (page held 0) text = rw front at wrote.written in
+    let place : after.at ≡ 0 + length text = ap (λ (q : Page). q.at) e ∙ w.0 in
+    let there : after.buffer.now ≡ (write (page held 0) text).held = ap (λ (q : Page). q.held) e in
+    rw (place, there) w.1

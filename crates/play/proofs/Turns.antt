@@ -7,7 +7,7 @@ use Rattle.std.specs.Prelude.{Option, Some, None}
 use Rattle.curves.specs.declared.Curve.{Curve}
 use Rattle.hagerzhang.specs.Machine.{Turn}
 use Rattle.text.specs.Text.{Page, write}
-use Rattle.text.proofs.Writing.{nothing, then}
+use Rattle.text.proofs.Writing.{nothing-page, then-page}
 use Rattle.play.specs.Telling.{said_line, text_of}
 use Rattle.play.specs.Playing.{said_of, answered_of, said_in, left_after}
 
@@ -47,13 +47,13 @@ module _ (c : Curve) where
 
   pub at-over : (n : ℕ) (p : Option Turn) (q : Page) → p ≡ None → (p ≡ left_after n c p) × (q ≡ ahead n p q)
   unfolding text_of
-  at-over n p q e = (rw (e, stays-over n), rw (e, silent n) (nothing q))
+  at-over n p q e = (rw (e, stays-over n), rw (e, silent n) (nothing-page q))
 
   pub at_last : (n : ℕ) (p : Option Turn) (q : Page) → n ≤ 0 → (p ≡ left_after n c p) × (q ≡ ahead n p q)
   unfolding text_of
   at_last n p q h =
       let z : n ≡ 0 = omega arith in
-      (rw z (sym (all_left p)), rw (z, none_said p) (nothing q))
+      (rw z (sym (all_left p)), rw (z, none_said p) (nothing-page q))
 
   -- one turn, which writes a line
   pub turn-left : (n : ℕ) (p q : Option Turn) (t : Turn) → 0 < n → p ≡ Some t → q ≡ answered_of c t
@@ -65,4 +65,4 @@ module _ (c : Curve) where
   unfolding text_of
   turn-ahead n p q t a b h e f w =
       rw (e, f, said-first n t h)
-      (then a (said_line (said_of t)) (text_of (said_in (n - 1) c (answered_of c t))) w refl)
+      (then-page a (said_line (said_of t)) (text_of (said_in (n - 1) c (answered_of c t))) w refl)

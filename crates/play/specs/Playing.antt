@@ -5,6 +5,7 @@ use Rattle.runs.specs.Outcomes.{told}
 use Rattle.runs.specs.declared.Outcome.{Outcome}
 use Rattle.runs.specs.declared.Outcome.TheVariants.{Ask, Stop, Limit, Refused}
 use Rattle.hagerzhang_rules.specs.Rules.{iterations_in}
+use Rattle.text.specs.declared.Cursor.{Cursor}
 use Rattle.text.specs.Text.{Writes}
 use Rattle.curves.specs.declared.Curve.{Curve}
 use Rattle.curves.specs.Curves.{value_of, slope_of}
@@ -12,7 +13,6 @@ use Rattle.hagerzhang.specs.declared.state.Search.{Search}
 use Rattle.hagerzhang.specs.Machine.{Turn}
 use Rattle.hagerzhang.specs.Machine.{answer_of}
 use Rattle.hagerzhang.specs.Meaning.{report}
-use Rattle.play.specs.declared.Written.{Written}
 use Rattle.play.specs.Telling.{Said, text_of}
 
 -- what a turn says
@@ -44,12 +44,12 @@ left_after zero c p = p
 left_after (suc n) c None = None
 left_after (suc n) c (Some t) = left_after n c (answered_of c t)
 
--- what `play`'s contract says of a result r of so many turns: what is left of the play, and the buffer with the lines
--- of these turns written at its place
-pub record PlaySaid (c : Curve) (from : Option Turn) (turns : ℕ) (before : List ℕ) (at : ℕ) (r : Written)
-    (after : List ℕ) : Type 0 where
-  pub left : r.played ≡ left_after turns c from
-  pub lines : Writes before at (text_of (said_in turns c from)) after r.at
+-- what `play`'s contract says of a result r of so many turns: it is what is left of the play, and the lines of these
+-- turns are written
+pub record PlaySaid (c : Curve) (from : Option Turn) (turns : ℕ) (before : Cursor) (r : Option Turn) (after : Cursor)
+    : Type 0 where
+  pub left : r ≡ left_after turns c from
+  pub lines : Writes before (text_of (said_in turns c from)) after
 
 -- k chunks of n turns each: their text, and what is left
 unfoldable pub chunks : Curve → ℕ → ℕ → Option Turn → List ℕ

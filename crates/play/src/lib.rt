@@ -10,22 +10,14 @@ ghost use Rattle.play.specs.Playing.{said_of, answered_of, PlaySaid};
 
 use curves::Curve;
 use hagerzhang::Turn;
-use runs::Outcome;
-
-// What is left of a play: the turn whose outcome is still to be told, or none where everything is told. And the place
-// behind what was written.
-#[derive(Clone, Copy)]
-pub struct Written {
-    pub played: Option<Turn>,
-    pub at: usize,
-}
+use runs::{Machine, Outcome};
+use text::Cursor;
 
 // The line of a turn's outcome.
-fn line(out: &mut [u8], at: usize, t: Turn) -> usize
-    ensures { Writes out.old at (said_line (said_of t)) out.new result }
+fn line(page: &mut Cursor, t: Turn)
+    ensures { Writes page.old (said_line (said_of t)) page.new }
 {
-    let iterations = hagerzhang::held(t.search).iterations();
-    lines::outcome(out, at, t.outcome, t.search.evaluations, iterations)
+    lines::turn(page, t);
 }
 
 // The curve answers a step that is asked; any other outcome is the last.
@@ -34,23 +26,23 @@ fn answered(c: Curve, t: Turn) -> Option<Turn>
     ensures { result ≡ answered_of c t }
 {
     match t.outcome {
-        Outcome::Ask(x) => Some(hagerzhang::answer(t.search, c.value(x), c.slope(x))),
+        Outcome::Ask(x) => Some(t.search.answer(c.value(x), c.slope(x))),
         Outcome::Stop(..) | Outcome::Limit(_) | Outcome::Refused(_) => None,
     }
 }
 
-// Plays on for so many turns at most: each writes a line at a place of the buffer, as much as there is room for.
-pub fn play(c: Curve, from: Option<Turn>, turns: u32, out: &mut [u8], at: usize) -> Written
-    ensures { PlaySaid c from turns out.old at result out.new }
+// Plays on for so many turns at most: each writes a line, as much as there is room for. What is left is the turn whose
+// outcome is still to be told, or none where everything is told.
+pub fn play(c: Curve, from: Option<Turn>, turns: u32, page: &mut Cursor) -> Option<Turn>
+    ensures { PlaySaid c from turns page.old result page.new }
 {
     let mut played = from;
-    let mut next = at;
     for _ in 0..turns {
         let Some(t) = played else {
             break;
         };
-        next = line(out, next, t);
+        line(page, t);
         played = answered(c, t);
     }
-    Written { played, at: next }
+    played
 }

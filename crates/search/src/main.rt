@@ -6,36 +6,38 @@ ghost use Rattle.play.proofs.Ending.{Playable};
 
 use curves::Curve;
 use hagerzhang::Turn;
-use jobs::Opened;
+use text::Cursor;
 
 // The lines of the whole play, as far as standard output takes them. It ends: each turn leaves less to tell.
 fn tell(rt: &(impl Print + Eprint), c: Curve, first: Turn)
     requires { Playable c (Some first) }
 {
-    let mut page = [0u8; 65536];
+    let mut buffer = [0u8; 65536];
     let mut sent = streams::nothing_sent();
     let mut left = Some(first);
     while let Some(t) = left {
-        let told = play::play(c, Some(t), 512, &mut page, 0);
-        sent = streams::send(rt, sent, &page, told.at);
+        let mut page = Cursor::new(&mut buffer);
+        left = play::play(c, Some(t), 512, &mut page);
+        let n = page.at;
+        sent = streams::send(rt, sent, &buffer, n);
         if sent.lost {
             return;
         }
-        left = told.played;
     }
 }
 
 fn refuse(rt: &(impl Print + Eprint), number: u32) {
-    let mut page = [0u8; 4096];
-    let n = lines::refused(&mut page, 0, number);
-    streams::send(rt, streams::nothing_sent(), &page, n);
+    let mut buffer = [0u8; 80];
+    let mut page = Cursor::new(&mut buffer);
+    lines::refused(&mut page, number);
+    let n = page.at;
+    streams::send(rt, streams::nothing_sent(), &buffer, n);
 }
 
 fn run(rt: &(impl Print + Eprint), job: &[u8]) {
     match jobs::begin(job) {
-        Opened::Begun(c, t) => tell(rt, c, t),
-        Opened::NoSearch(k) => refuse(rt, k.number()),
-        Opened::Unreadable => refuse(rt, 9),
+        Ok((c, t)) => tell(rt, c, t),
+        Err(refusal) => refuse(rt, refusal.number()),
     }
 }
 

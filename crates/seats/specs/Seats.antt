@@ -4,11 +4,9 @@ use Rattle.std.specs.Prelude.{Bool, Float}
 use Rattle.runs.specs.declared.Outcome.{Outcome}
 use Rattle.runs.specs.Outcomes.{told}
 use Rattle.runs.specs.Asking.{Machine}
-use Rattle.backtracking.specs.declared.Turn.{Turn as TrialTurn}
-use Rattle.backtracking.specs.Machine.{answer_of as trial_of}
+use Rattle.backtracking.specs.Machine.{Turn as TrialTurn, answer_of as trial_of}
 use Rattle.backtracking.specs.Meaning.{is_over as trials_over}
-use Rattle.hagerzhang.specs.Machine.{Turn}
-use Rattle.hagerzhang.specs.Machine.{answer_of}
+use Rattle.hagerzhang.specs.Machine.{Turn, answer_of}
 use Rattle.hagerzhang.specs.Meaning.{is_over as hager_zhang_over}
 use Rattle.seats.specs.declared.Held.{Held}
 use Rattle.seats.specs.declared.Held.TheVariants.{HagerZhang, Backtracks}

@@ -7,7 +7,7 @@ ghost use Rattle.seats.specs.Seats.{seat_of, hager_zhang_seat, backtracking_seat
 
 use backtracking::Backtracking;
 use hagerzhang::Search;
-use runs::Outcome;
+use runs::{Machine, Outcome};
 
 #[derive(Clone, Copy)]
 pub enum Held {
@@ -28,30 +28,26 @@ fn seated(held: Held, outcome: Outcome) -> Seat
     Seat { held, outcome }
 }
 
-// The search that a start or an answer gave, with what it told.
+// The search that a start or an answer gave, with what it told. One function for either kind would want a `From` for
+// each case of `Held` besides, and is no plainer.
 pub fn hager_zhang(turn: hagerzhang::Turn) -> Seat
     ensures { result ≡ hager_zhang_seat turn }
 {
-    let search = turn.search;
-    let outcome = turn.outcome;
-    seated(Held::HagerZhang(search), outcome)
+    seated(Held::HagerZhang(turn.search), turn.outcome)
 }
 
 pub fn backtracks(turn: backtracking::Turn) -> Seat
     ensures { result ≡ backtracking_seat turn }
 {
-    let search = turn.search;
-    let outcome = turn.outcome;
-    seated(Held::Backtracks(search), outcome)
+    seated(Held::Backtracks(turn.search), turn.outcome)
 }
 
 // One answer, cost f and slope g, to the search in the seat: what `answer` of its kind gives.
 pub fn answered(s: Seat, f: f64, g: f64) -> Seat
     ensures { result ≡ answered_of s f g }
 {
-    let held = s.held;
-    match held {
-        Held::HagerZhang(search) => hager_zhang(hagerzhang::answer(search, f, g)),
-        Held::Backtracks(search) => backtracks(backtracking::answer(search, f, g)),
+    match s.held {
+        Held::HagerZhang(search) => hager_zhang(search.answer(f, g)),
+        Held::Backtracks(search) => backtracks(search.answer(f, g)),
     }
 }

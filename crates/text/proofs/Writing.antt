@@ -26,9 +26,12 @@ writes-determined p text q r w w' = told q.buffer.now r.buffer.now q.at r.at (w.
 
 -- ---- text after text
 
-pub nothing : (p : Cursor) → Writes p [] p
+pub nothing-page : (p : Page) → p ≡ write p []
 unfolding write
-nothing p = record { same_buffer = refl; written = refl }
+nothing-page p = refl
+
+pub nothing : (p : Cursor) → Writes p [] p
+nothing p = record { same_buffer = refl; written = nothing-page _ }
 
 -- of three pages each is the former with a text written to it
 pub then-page : (p : Page) {q r : Page} (s t : List ℕ) → q ≡ write p s → r ≡ write q t → r ≡ write p (s ++ t)

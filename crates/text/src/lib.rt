@@ -7,6 +7,7 @@ ghost use Rattle.std.specs.Prelude.{[], ◌∷◌, ◌≡◌, ◌<◌};
 ghost use Rattle.text.specs.Text.{Writes, digit, hex_of, decimal_of, decimal_up_to};
 ghost use Rattle.text.specs.Figures.{next_text, floats_text, floats_line, number_line};
 
+#[derive(Drop)]
 pub struct Cursor<'a> {
     pub buffer: &'a mut [u8],
     // the place of the next byte
@@ -34,6 +35,17 @@ fn hex_digits(w: u64) -> [u8; 16]
         *d = digit((w >> (60 - 4 * i)) % 16);
     }
     digits
+}
+
+impl<'a> Cursor<'a> {
+    // At the front of the buffer.
+    pub fn new(buffer: &'a mut [u8]) -> Cursor<'a>
+        ensures same_buffer { result.buffer.ghost_name ≡ buffer.entry.ghost_name }
+        ensures held { result.buffer.now ≡ buffer.old }
+        ensures front { result.at ≡ 0 }
+    {
+        Cursor { buffer, at: 0 }
+    }
 }
 
 impl Cursor<'_> {

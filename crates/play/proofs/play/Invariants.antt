@@ -9,6 +9,7 @@ use Rattle.play.proofs.play.Given as goal
 abbrev pub invariant-loop : goal.invariant-loop
 invariant-loop l = record {
   left : left_after (l.turns - l.counter) l.c l.played ≡ left_after l.turns l.c l.initial.played;
-  lines : ahead l.c (l.turns - l.counter) l.played (page l.out l.next)
-      ≡ ahead l.c l.turns l.initial.played (page l.initial.out l.at);
+  same_buffer : l.page.buffer.ghost_name ≡ l.initial.page.buffer.ghost_name;
+  lines : ahead l.c (l.turns - l.counter) l.played (page l.page.buffer.now l.page.at)
+      ≡ ahead l.c l.turns l.initial.played (page l.initial.page.buffer.now l.initial.page.at);
 }

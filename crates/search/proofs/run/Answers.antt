@@ -4,4 +4,4 @@ use Rattle.play.proofs.Ending.{begun-playable}
 use Rattle.search.proofs.run.Goals as goal
 
 pub tell-requires : goal.tell-requires
-tell-requires g c = begun-playable _ _ _ (sym c.in-Begun.ensures)
+tell-requires g c = begun-playable _ _ _ (sym c.in-Ok.ensures)
