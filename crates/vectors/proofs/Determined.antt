@@ -5,15 +5,12 @@ use mathlib.Core.Path.{◌≡◌, refl, sym, ap, ◌∙◌}
 use mathlib.Core.Bool.{cond}
 use mathlib.Core.List.{List}
 use lib.Dec.{eqb}
+use Rattle.std.specs.Prelude.{Result, Ok, Err}
 use lib.Ieee.{Float}
 use Rattle.refusals.specs.Results.{ResultBy, value, refused}
 use Rattle.floats.proofs.Determined.{determined}
 use Rattle.vectors.specs.declared.Refusal.{Refusal}
 use Rattle.vectors.specs.declared.Refusal.TheVariants.{Lengths, SuppliedNotFinite, ResultNotFinite}
-use Rattle.vectors.specs.declared.DotResult.{DotResult}
-use Rattle.vectors.specs.declared.DotResult.TheVariants.{Value, Refused}
-use Rattle.vectors.specs.declared.PointResult.{PointResult}
-use Rattle.vectors.specs.declared.PointResult.TheVariants.{Written, Untouched}
 use Rattle.vectors.specs.Faults.{Fault, alone, ◌at◌}
 use Rattle.vectors.specs.Told.{fault_of, dot_told, DotSaid, point_told, PointSaid}
 
@@ -27,30 +24,30 @@ fault-back Lengths = refl
 fault-back (SuppliedNotFinite i) = refl
 fault-back (ResultNotFinite i) = refl
 
-read-dot : ResultBy Fault Float → DotResult
-read-dot (value v) = Value v
-read-dot (refused k) = Refused (with_fault k)
+read-dot : ResultBy Fault Float → Result Float Refusal
+read-dot (value v) = Ok v
+read-dot (refused k) = Err (with_fault k)
 
-read-point : ResultBy Fault (List Float) → PointResult
-read-point (value p) = Written
-read-point (refused k) = Untouched (with_fault k)
+read-point : ResultBy Fault (List Float) → Result (Unit {0}) Refusal
+read-point (value p) = Ok tt
+read-point (refused k) = Err (with_fault k)
 
-dot-back : (r : DotResult) → read-dot (dot_told r) ≡ r
+dot-back : (r : Result Float Refusal) → read-dot (dot_told r) ≡ r
 unfolding read-dot
-dot-back (Value v) = refl
-dot-back (Refused k) = ap Refused (fault-back k)
+dot-back (Ok v) = refl
+dot-back (Err k) = ap Err (fault-back k)
 
-point-back : (held : List Float) (r : PointResult) → read-point (point_told r held) ≡ r
+point-back : (held : List Float) (r : Result (Unit {0}) Refusal) → read-point (point_told r held) ≡ r
 unfolding read-point
-point-back held Written = refl
-point-back held (Untouched k) = ap Untouched (fault-back k)
+point-back held (Ok _) = refl
+point-back held (Err k) = ap Err (fault-back k)
 
-pub dot-determined : (a b : List Float) (r q : DotResult) → DotSaid a b r → DotSaid a b q → r ≡ q
+pub dot-determined : (a b : List Float) (r q : Result Float Refusal) → DotSaid a b r → DotSaid a b q → r ≡ q
 dot-determined a b r q said said' = determined dot_told read-dot dot-back r q (said ∙ sym said')
 
 -- the buffer held `held`; with r it holds `now`, and with q `later`
 pub point-determined : (x0 : List Float) (alpha : Float) (d held : List Float)
-    (r q : PointResult) (now later : List Float)
+    (r q : Result (Unit {0}) Refusal) (now later : List Float)
     → PointSaid x0 alpha d held r now → PointSaid x0 alpha d held q later → (r ≡ q) × (now ≡ later)
 point-determined x0 alpha d held r q now later said said' =
     let same : now ≡ later = said.1 ∙ sym said'.1 in

@@ -10,7 +10,7 @@ use lib.ListN.{length, get_or, drop, take, set, drop_of_length-le}
 use lib.Seq.{drop-cons, take_all}
 use lib.Ieee.{Float, nan}
 use Rattle.floats.specs.Arithmetic.{◌⊕◌}
-use Rattle.vectors.specs.Vectors.{bad_length, left_sum}
+use Rattle.vectors.specs.Vectors.{bad_length, left_sum, moved, moved_by}
 
 -- ---- a length that is taken
 pub not-empty : (n : ℕ) → bad_length n ≡ false → 0 < n
@@ -44,6 +44,10 @@ module _ (f : Float → Float → Float) where
   zip-at (x ∷ xs) [] i h k = absurd (not-suc-le-zero k)
   zip-at (x ∷ xs) (y ∷ ys) zero h k = refl
   zip-at (x ∷ xs) (y ∷ ys) (suc i) h k = zip-at xs ys i (le_of_suc-le-suc h) (le_of_suc-le-suc k)
+
+pub moved_at : (x0 : List Float) (alpha : Float) (d : List Float) (i : ℕ) → i < length x0 → length x0 ≡ length d
+    → get_or (moved x0 alpha d) i nan ≡ moved_by alpha (get_or x0 i nan) (get_or d i nan)
+moved_at x0 alpha d i h e = zip-at (moved_by alpha) x0 d i h (omega arith)
 
 -- ---- a list filled from the front: what it holds after i stores, and the store at i
 pub store : (d m : List Float) (i : ℕ) → i < length d → i < length m

@@ -3,15 +3,14 @@
 use Prim.Native.Nat.{ℕ, zero, suc, ◌≤◌, ◌<◌, suc-le-suc}
 use native.Mathlib.Nat.{le_of_suc-le-suc, not-suc-le-zero, zero-lt-suc}
 use native.Mathlib.Omega.{arith}
-use mathlib.Core.Path.{◌≡◌, refl, sym, ap, ◌∙◌}
-use mathlib.Core.Bool.{Bool, true, false, not, ◌&&◌, ◌||◌}
+use mathlib.Core.Path.{◌≡◌, refl}
+use mathlib.Core.Bool.{Bool, true, false, ◌&&◌, ◌||◌}
 use mathlib.Core.List.{List, [], ◌∷◌}
 use borrow.Author.Tests.{not-true, not-false}
-use lib.ListN.{length, get_or}
-use lib.Ieee.{Float, nan}
+use lib.ListN.{length}
+use lib.Ieee.{Float}
 use lib.Ieee.Scale.{finite}
 use Rattle.floats.proofs.Branches.{both, neither-first, neither-second}
-use Rattle.numbers.specs.Numbers.{both_finite}
 use Rattle.vectors.specs.Faults.{first}
 use Rattle.vectors.specs.Vectors.{all_finite, bad, bad_in_any}
 use Rattle.vectors.proofs.First.{is-first, none_before, none_found}
@@ -41,15 +40,6 @@ module _ (xs : List Float) (n : ℕ) (long : length xs ≡ n) (i : ℕ) (found :
       all-good xs (λ j l. none_before (bad xs) n j (omega arith))
 
 -- ---- two vectors of one length
-
-not-both : (x y : Bool) → not (x && y) ≡ (not x || not y)
-not-both true y = refl
-not-both false y = refl
-
--- a test of both elements at i, denied, says whether either is bad
-pub tested : (xs ys : List Float) (i : ℕ) (t b : Bool) → t ≡ both_finite (get_or xs i nan) (get_or ys i nan) → not t ≡ b
-    → bad_in_any xs ys i ≡ b
-tested xs ys i t b e h = sym (not-both (finite (get_or xs i nan)) (finite (get_or ys i nan))) ∙ ap not (sym e) ∙ h
 
 module _ (xs ys : List Float) (same : length xs ≡ length ys) where
   either-bad : (i : ℕ) → i < length xs → (b : Bool) → bad xs i ≡ b → (b || bad ys i) ≡ true

@@ -2,15 +2,15 @@
 
 #![tactic(auto)]
 
-ghost use Rattle.std.specs.Prelude.{◌≡◌, false, ◌<◌, length};
+ghost use Rattle.std.specs.Prelude.{◌≡◌, ◌<◌, ◌||◌, ◌&&◌, false, not, length, OnOk};
 ghost use Rattle.std.specs.Float.Ieee.Scale.{finite};
-ghost use Rattle.vectors.specs.Faults.{first};
-ghost use Rattle.vectors.specs.Vectors.{bad_length, bad, bad_in_any, products, left_sum, sum_bad, moved};
-ghost use Rattle.vectors.specs.Told.{number_of, DotSaid, PointSaid};
+ghost use Rattle.vectors.specs.Faults.{first, FirstFound};
+ghost use Rattle.vectors.specs.Vectors.{bad_length, all_finite, bad, bad_in_any, products, left_sum, sum_bad, moved};
+ghost use Rattle.vectors.specs.Told.{number_of, CheckSaid, DotSaid, PointSaid};
 
 // Why vectors are refused, in the order in which the reasons are tried. An index counts from 0; if several vectors are
 // bad there, none is named.
-#[derive(Clone, Copy)]
+#[derive(Clone, Copy, Debug, PartialEq, Eq)]
 pub enum Refusal {
     // a length is 0 or above 256, or the lengths differ
     Lengths,
@@ -35,20 +35,6 @@ impl Refusal {
     }
 }
 
-#[derive(Clone, Copy)]
-pub enum DotResult {
-    Value(f64),
-    Refused(Refusal),
-}
-
-#[derive(Clone, Copy)]
-pub enum PointResult {
-    // the buffer holds the point
-    Written,
-    // the buffer holds what it held
-    Untouched(Refusal),
-}
-
 // Whether a vector may not have n elements.
 fn bad_length(n: usize) -> bool
     ensures { result ≡ bad_length n }
@@ -56,19 +42,38 @@ fn bad_length(n: usize) -> bool
     (n == 0) | (256 < n)
 }
 
-// The first index at which either vector is not finite; the length where there is none.
-fn first_bad(xs: &[f64], ys: &[f64]) -> usize
-    requires { length xs.now ≡ length ys.now }
-    ensures { result ≡ first (bad_in_any xs.now ys.now) (length xs.now) }
+// Refuses a length n that a vector may not have, and lengths that are not the `same`.
+fn check_lengths(n: usize, same: bool) -> Result<(), Refusal>
+    ensures { CheckSaid (bad_length n || not same) Refusal.Lengths result }
 {
-    let mut i = 0;
-    while i < xs.len() {
-        if !numbers::both_finite(xs[i], ys[i]) {
-            return i;
-        }
-        i += 1;
+    if bad_length(n) || !same {
+        Err(Refusal::Lengths)
+    } else {
+        Ok(())
     }
-    i
+}
+
+// The first index at which either vector is not finite.
+fn first_bad(xs: &[f64], ys: &[f64]) -> Option<usize>
+    requires { length xs.now ≡ length ys.now }
+    ensures { FirstFound (bad_in_any xs.now ys.now) (length xs.now) result }
+{
+    xs.iter()
+        .zip(ys)
+        .position(|(x, y)| !numbers::both_finite(*x, *y))
+}
+
+// Refuses two vectors of which either has a number that is not finite.
+fn check_supplied(xs: &[f64], ys: &[f64]) -> Result<(), Refusal>
+    requires { length xs.now ≡ length ys.now }
+    ensures said { let i = first (bad_in_any xs.now ys.now) (length xs.now) in
+        CheckSaid (not (all_finite xs.now && all_finite ys.now)) (Refusal.SuppliedNotFinite i) result }
+    ensures none_bad { OnOk result (first (bad_in_any xs.now ys.now) (length xs.now) ≡ length xs.now) }
+{
+    match first_bad(xs, ys) {
+        Some(i) => Err(Refusal::SuppliedNotFinite(i)),
+        None => Ok(()),
+    }
 }
 
 // 01: "Dot adds products from the left, starting with the first product."
@@ -77,10 +82,8 @@ fn left_sum(a: &[f64], b: &[f64]) -> f64
     ensures { result ≡ left_sum (products a.now b.now) }
 {
     let mut s = a[0] * b[0];
-    let mut i = 1;
-    while i < a.len() {
-        s = s + a[i] * b[i];
-        i += 1;
+    for i in 1..a.len() {
+        s += a[i] * b[i];
     }
     s
 }
@@ -93,53 +96,38 @@ fn first_overflow(a: &[f64], b: &[f64]) -> usize
     ensures { result ≡ first (sum_bad (products a.now b.now)) (length a.now) }
 {
     let mut sum = a[0] * b[0];
-    let mut i = 1;
-    while i < a.len() {
+    for i in 1..a.len() {
         if !numbers::is_finite(sum) {
             return i - 1;
         }
-        sum = sum + a[i] * b[i];
-        i += 1;
+        sum += a[i] * b[i];
     }
-    i - 1
+    a.len() - 1
 }
 
 // The dot of a and b, or the first refusal that applies.
-pub fn dot(a: &[f64], b: &[f64]) -> DotResult
+pub fn dot(a: &[f64], b: &[f64]) -> Result<f64, Refusal>
     ensures { DotSaid a.now b.now result }
 {
-    let n = a.len();
-    if bad_length(n) {
-        return DotResult::Refused(Refusal::Lengths);
-    }
-    if n != b.len() {
-        return DotResult::Refused(Refusal::Lengths);
-    }
-    let i = first_bad(a, b);
-    if i < n {
-        return DotResult::Refused(Refusal::SuppliedNotFinite(i));
-    }
+    check_lengths(a.len(), a.len() == b.len())?;
+    check_supplied(a, b)?;
     let s = left_sum(a, b);
     if numbers::is_finite(s) {
-        DotResult::Value(s)
+        Ok(s)
     } else {
-        DotResult::Refused(Refusal::ResultNotFinite(first_overflow(a, b)))
+        Err(Refusal::ResultNotFinite(first_overflow(a, b)))
     }
 }
 
-// The first index at which x0 + alpha * d is not finite; the length where there is none.
-fn first_bad_moved(x0: &[f64], alpha: f64, d: &[f64]) -> usize
+// The first index at which x0 + alpha * d is not finite.
+#[tactic(auto, using(crate::proofs::Elements::moved_at))]
+fn first_bad_moved(x0: &[f64], alpha: f64, d: &[f64]) -> Option<usize>
     requires { length x0.now ≡ length d.now }
-    ensures { result ≡ first (bad (moved x0.now alpha d.now)) (length x0.now) }
+    ensures { FirstFound (bad (moved x0.now alpha d.now)) (length x0.now) result }
 {
-    let mut i = 0;
-    while i < x0.len() {
-        if !numbers::is_finite(x0[i] + alpha * d[i]) {
-            return i;
-        }
-        i += 1;
-    }
-    i
+    x0.iter()
+        .zip(d)
+        .position(|(x, e)| !numbers::is_finite(*x + alpha * *e))
 }
 
 // 01: "A point is x0[i] + alpha*d[i]."
@@ -147,39 +135,25 @@ fn write_moved(x0: &[f64], alpha: f64, d: &[f64], out: &mut [f64])
     requires { (length x0.now ≡ length d.now) × (length x0.now ≡ length out.old) }
     ensures { out.new ≡ moved x0.now alpha d.now }
 {
-    let mut i = 0;
-    while i < x0.len() {
-        out[i] = x0[i] + alpha * d[i];
-        i += 1;
+    for (i, x) in out.iter_mut().enumerate() {
+        *x = x0[i] + alpha * d[i];
     }
 }
 
 // Writes the point x0 + alpha * d to out; or leaves out as it is, and tells the first refusal that applies. 01: "A
 // scaled point checks all elements before it writes any."
-pub fn point(x0: &[f64], alpha: f64, d: &[f64], out: &mut [f64]) -> PointResult
+pub fn point(x0: &[f64], alpha: f64, d: &[f64], out: &mut [f64]) -> Result<(), Refusal>
     ensures { PointSaid x0.now alpha d.now out.old result out.new }
 {
     let n = x0.len();
-    if bad_length(n) {
-        return PointResult::Untouched(Refusal::Lengths);
-    }
-    if n != d.len() {
-        return PointResult::Untouched(Refusal::Lengths);
-    }
-    if n != out.len() {
-        return PointResult::Untouched(Refusal::Lengths);
-    }
-    let i = first_bad(x0, d);
-    if i < n {
-        return PointResult::Untouched(Refusal::SuppliedNotFinite(i));
-    }
+    check_lengths(n, (n == d.len()) & (n == out.len()))?;
+    check_supplied(x0, d)?;
     if !numbers::is_finite(alpha) {
-        return PointResult::Untouched(Refusal::SuppliedNotFinite(n));
+        return Err(Refusal::SuppliedNotFinite(n));
     }
-    let k = first_bad_moved(x0, alpha, d);
-    if k < n {
-        return PointResult::Untouched(Refusal::ResultNotFinite(k));
+    if let Some(k) = first_bad_moved(x0, alpha, d) {
+        return Err(Refusal::ResultNotFinite(k));
     }
     write_moved(x0, alpha, d, out);
-    PointResult::Written
+    Ok(())
 }

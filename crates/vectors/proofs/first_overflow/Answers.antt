@@ -1,12 +1,6 @@
 -- `vectors::first_overflow` meets its contract: the sum is that of the first i products, and those of fewer are finite.
 -- Assumes nothing.
-use mathlib.Core.Path.{◌≡◌, sym, ap, ◌∙◌}
-use mathlib.Core.Bool.{true}
-use Prim.Native.Nat.{◌<◌}
-use native.Mathlib.Numerals.{add-one}
-use native.Mathlib.Omega.{arith}
-use borrow.Author.Count.{below_more}
-use lib.ListN.{length, take}
+use Rattle.std.proofs.Common.{◌≡◌, ◌<◌, true, length, take, sym, ap, ◌∙◌, arith, add-one, below_more}
 use lib.Seq.{take_all}
 use lib.Ieee.Scale.{finite}
 use Rattle.floats.specs.Arithmetic.{◌⊗◌}
@@ -21,39 +15,35 @@ loop-i-init c =
     let b = c.args.b.now in
     let n : length (products a b) ≡ length a = zip_length ◌⊗◌ a b (omega arith) in
     let first = zip-at ◌⊗◌ a b 0 (omega arith) (omega arith) in
-    (omega arith, omega arith, sym (sum_first (products a b) (omega arith) ∙ first), λ k l p. absurd (omega arith))
+    (sym (sum_first (products a b) (omega arith) ∙ first), λ k l p. absurd (omega arith))
 
 pub returns-then-not-is_finite : goal.returns-then-not-is_finite
 returns-then-not-is_finite c =
-    let l = c.before in
-    let inv = l.loop-i.invariant in
-    let e = ap finite (sym inv.2) ∙ sym c.is_finite.ensures ∙ c.if-not-is_finite.true in
-    overflow-found _ _ l.loop-i.i inv.0 inv.1 e inv.3
+    let inv = c.loop-i.invariant in
+    let e = ap finite (sym inv.0) ∙ sym c.is_finite.ensures ∙ c.if-not-is_finite.true in
+    overflow-found _ _ c.loop-i.i (omega arith) (omega arith) e inv.1
 
 pub loop-i-preserved : goal.loop-i-preserved
 loop-i-preserved c =
-    let l = c.before in
-    let inv = l.loop-i.invariant in
-    let i = l.loop-i.i in
-    let a = l.args.a.now in
-    let b = l.args.b.now in
+    let inv = c.loop-i.invariant in
+    let i = c.loop-i.i in
+    let a = c.args.a.now in
+    let b = c.args.b.now in
     let n : length (products a b) ≡ length a = zip_length ◌⊗◌ a b (omega arith) in
     let next = zip-at ◌⊗◌ a b i (omega arith) (omega arith) in
-    let test = c.before in
-    let e = ap finite (sym inv.2) ∙ sym test.is_finite.ensures ∙ test.if-not-is_finite.false in (
-      omega arith,
-      omega arith,
-      rw (inv.2, ← next, add-one) (sym (sum-next (products a b) i inv.0 (omega arith))),
-      below_more (λ k. 0 < k → finite (left_sum (take k (products a b))) ≡ true) i inv.3 (λ p. e),
+    let e = ap finite (sym inv.0) ∙ sym c.is_finite.ensures ∙ c.if-not-is_finite.false in (
+      rw (inv.0, ← next, add-one) (sym (sum-next (products a b) i (omega arith) (omega arith))),
+      below_more (λ k. 0 < k → finite (left_sum (take k (products a b))) ≡ true) i inv.1 (λ p. e),
     )
 
 pub returns : goal.returns
 returns c =
-    let l = c.before in
-    let inv = l.loop-i.invariant in
-    let a = l.args.a.now in
-    let b = l.args.b.now in
+    let inv = c.loop-i.invariant in
+    let a = c.args.a.now in
+    let b = c.args.b.now in
     let n : length (products a b) ≡ length a = zip_length ◌⊗◌ a b (omega arith) in
-    let whole = take_all l.loop-i.i (products a b) (omega arith) in
-    overflow-found _ _ l.loop-i.i inv.0 inv.1
-    (ap (λ ps. finite (left_sum ps)) whole ∙ l.requires.b_value) inv.3
+    let whole = take_all c.loop-i.i (products a b) (omega arith) in
+    let same : c.loop-i.i ≡ length a = omega arith in
+    rw (← same)
+    (overflow-found _ _ c.loop-i.i (omega arith) (omega arith)
+    (ap (λ ps. finite (left_sum ps)) whole ∙ c.requires.b_value) inv.1)

@@ -1,18 +1,10 @@
 -- The loop of `vectors::first_overflow`: the sum is that of the first i products, and those of fewer are finite.
-use mathlib.Core.Path.{◌≡◌}
-use mathlib.Core.Bool.{true}
-use Prim.Native.Nat.{ℕ, ◌-◌, ◌≤◌, ◌<◌}
-use lib.ListN.{length, take}
+use Rattle.std.proofs.Common.{◌≡◌, ℕ, ◌<◌, true, take}
 use lib.Ieee.Scale.{finite}
 use Rattle.vectors.specs.Vectors.{products, left_sum}
 use Rattle.vectors.proofs.first_overflow.Given as goal
 
 abbrev pub invariant-loop-i : goal.invariant-loop-i
 invariant-loop-i l =
-    (0 < l.i)
-    × (l.i ≤ length l.a)
-    × (l.sum ≡ left_sum (take l.i (products l.a l.b)))
+    (l.sum ≡ left_sum (take l.i (products l.a l.b)))
     × ((k : ℕ) → k < l.i → 0 < k → finite (left_sum (take k (products l.a l.b))) ≡ true)
-
-abbrev pub decreases-loop-i : goal.decreases-loop-i
-decreases-loop-i l = length l.a - l.i

@@ -1,7 +1,5 @@
 -- `vectors::left_sum` meets its contract: the sum so far, with the products from i on still to add. Assumes nothing.
-use mathlib.Core.Path.{◌≡◌, sym, ◌∙◌}
-use native.Mathlib.Omega.{arith}
-use lib.ListN.{length}
+use Rattle.std.proofs.Common.{◌≡◌, length, sym, ◌∙◌, arith}
 use Rattle.floats.specs.Arithmetic.{◌⊗◌}
 use Rattle.vectors.specs.Vectors.{products}
 use Rattle.vectors.proofs.Elements.{sum-start, sum_step, sum-end, zip_length, zip-at}
@@ -13,22 +11,20 @@ loop-i-init c =
     let b = c.args.b.now in
     let n : length (products a b) ≡ length a = zip_length ◌⊗◌ a b (omega arith) in
     let first = zip-at ◌⊗◌ a b 0 (omega arith) (omega arith) in
-    (omega arith, sum-start (products a b) (omega arith) ∙ rw first)
+    sum-start (products a b) (omega arith) ∙ rw first
 
 pub loop-i-preserved : goal.loop-i-preserved
 loop-i-preserved c =
-    let l = c.before in
-    let a = l.args.a.now in
-    let b = l.args.b.now in
-    let i = l.loop-i.i in
+    let a = c.args.a.now in
+    let b = c.args.b.now in
+    let i = c.loop-i.i in
     let n : length (products a b) ≡ length a = zip_length ◌⊗◌ a b (omega arith) in
     let next = zip-at ◌⊗◌ a b i (omega arith) (omega arith) in
-    (omega arith, l.loop-i.invariant.1 ∙ sum_step _ (products a b) i (omega arith) ∙ rw next)
+    c.loop-i.invariant ∙ sum_step _ (products a b) i (omega arith) ∙ rw next
 
 pub returns : goal.returns
 returns c =
-    let l = c.before in
-    let a = l.args.a.now in
-    let b = l.args.b.now in
+    let a = c.args.a.now in
+    let b = c.args.b.now in
     let n : length (products a b) ≡ length a = zip_length ◌⊗◌ a b (omega arith) in
-    sym (l.loop-i.invariant.1 ∙ sum-end _ (products a b) l.loop-i.i (omega arith))
+    sym (c.loop-i.invariant ∙ sum-end _ (products a b) c.loop-i.i (omega arith))

@@ -1,30 +1,22 @@
 -- `vectors::write_moved` meets its contract: the first i elements are the point's, and the others are what the buffer
 -- held. Assumes nothing.
-use mathlib.Core.Path.{◌≡◌, ◌∙◌}
-use native.Mathlib.Numerals.{add-one}
-use native.Mathlib.Omega.{arith}
-use lib.ListN.{length, length-set}
+use Rattle.std.proofs.Common.{◌≡◌, ◌∙◌, length, add-one, arith}
 use Rattle.vectors.specs.Vectors.{moved, moved_by}
 use Rattle.vectors.proofs.Elements.{zip_length, zip-at, store, stored}
 use Rattle.vectors.proofs.write_moved.Goals as goal
 
 pub loop-i-preserved : goal.loop-i-preserved
 loop-i-preserved c =
-    let l = c.before in
-    let a = l.args in
+    let a = c.args in
     let m = moved a.x0.now a.alpha a.d.now in
-    let i = l.loop-i.i in
-    let n : length m ≡ length a.x0.now = zip_length (moved_by a.alpha) _ _ l.requires.0 in
-    let v = zip-at (moved_by a.alpha) a.x0.now a.d.now i (omega arith) (omega arith) in (
-      omega arith,
-      simp length-set l.loop-i.invariant.1,
-      rw (l.loop-i.invariant.2, ← v, add-one) (store a.out.now m i (omega arith) (omega arith)),
-    )
+    let i = c.loop-i.i in
+    let n : length m ≡ length a.x0.now = zip_length (moved_by a.alpha) _ _ c.requires.0 in
+    let v = zip-at (moved_by a.alpha) a.x0.now a.d.now i (omega arith) (omega arith) in
+    rw (c.loop-i.invariant, ← v, add-one) (store a.out.now m i (omega arith) (omega arith))
 
 pub returns : goal.returns
 returns c =
-    let l = c.before in
-    let a = l.args in
+    let a = c.args in
     let m = moved a.x0.now a.alpha a.d.now in
-    let n : length m ≡ length a.x0.now = zip_length (moved_by a.alpha) _ _ l.requires.0 in
-    l.loop-i.invariant.2 ∙ stored a.out.now m l.loop-i.i (omega arith) (omega arith)
+    let n : length m ≡ length a.x0.now = zip_length (moved_by a.alpha) _ _ c.requires.0 in
+    c.loop-i.invariant ∙ stored a.out.now m c.loop-i.i (omega arith) (omega arith)
