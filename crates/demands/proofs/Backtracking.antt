@@ -28,7 +28,7 @@ use Rattle.backtracking.specs.declared.Setup.{Setup}
 use Rattle.backtracking.specs.declared.Stage.{Stage}
 use Rattle.backtracking.specs.declared.Stage.TheVariants.{First, Later, Over}
 use Rattle.backtracking.specs.declared.Backtracking.{Backtracking}
-use Rattle.backtracking.specs.declared.Turn.{Turn}
+use Rattle.backtracking.specs.Machine.{Turn}
 use Rattle.backtracking.specs.Backtracking.{start_rows, setup_of, backtracking}
 use Rattle.backtracking.specs.Machine.{tried_of, answer_by, answer_of, fresh_of, start_of}
 use Rattle.backtracking.specs.Meaning.{meaning, meant, is_over, Follows}

@@ -18,8 +18,7 @@ use Rattle.fields.specs.Fields.{Field}
 use Rattle.jobs.specs.declared.Job.{Job}
 use Rattle.jobs.specs.Format.{WellFormed, means_of}
 use Rattle.jobs.proofs.BothWays.{job_read, no-job-refused}
-use Rattle.jobs.specs.declared.Opened.{Opened}
-use Rattle.jobs.specs.Opening.{job_rows, begun_by, opened_told, BeginSaid}
+use Rattle.jobs.specs.Opening.{Opened, job_rows, begun_by, opened_told, BeginSaid}
 use Rattle.demands.specs.Demand1.{Demand1}
 use Rattle.demands.proofs.Answered.{answered}
 use Rattle.demands.proofs.Refused.{refused-rightly}

@@ -22,8 +22,8 @@ use Rattle.backtracking.specs.declared.Setup.{Setup}
 use Rattle.backtracking.specs.declared.Stage.{Stage}
 use Rattle.backtracking.specs.declared.Stage.TheVariants.{First, Later, Over}
 use Rattle.backtracking.specs.declared.Backtracking.{Backtracking}
-use Rattle.backtracking.specs.declared.Turn.{Turn}
-use Rattle.backtracking.specs.declared.Started.TheVariants.{Began}
+use Rattle.backtracking.specs.Machine.{Turn}
+use Rattle.std.specs.Prelude.{Ok}
 use Rattle.backtracking.specs.Backtracking.{defaults_of, start_rows, setup_of, trials, backtracking}
 use Rattle.backtracking.specs.Meaning.{meaning, meant, Starts, Follows}
 use Rattle.demands.specs.Backtracking.{EmptyShutOut}
@@ -47,7 +47,7 @@ waits s i (Later t) x e =
 waits s i Over x e = absurd (none-some x e)
 
 -- what meets `Starts` stands for the first trial
-begun : (o : Options) (f0 s0 : Float) (t : Turn) → Starts o f0 s0 (Began t)
+begun : (o : Options) (f0 s0 : Float) (t : Turn) → Starts o f0 s0 (Ok t)
     → Passed (start_rows o f0 s0) × Waits (setup_of o f0 s0) o.alpha (meant t.search)
 begun o f0 s0 t starts =
     let s = setup_of o f0 s0 in
@@ -80,7 +80,7 @@ module _ (s : Setup) (x : Float) (b : Backtracking) (at : Waits s x (meant b)) (
         moves-on here (trials-end s at.left at.before at.now x) refl f g (untouched same);
   }
 
-pub first-shut-out : (o : Options) (f0 s0 : Float) (t : Turn) → Starts o f0 s0 (Began t) → (f g : Float) (r : Turn)
+pub first-shut-out : (o : Options) (f0 s0 : Float) (t : Turn) → Starts o f0 s0 (Ok t) → (f g : Float) (r : Turn)
     → Follows t.search f g r → EmptyShutOut (setup_of o f0 s0) o.alpha t.search f g r
 first-shut-out o f0 s0 t starts f g r by =
     shut_out (setup_of o f0 s0) o.alpha t.search (begun o f0 s0 t starts).1 f g r by
@@ -92,7 +92,7 @@ empty-shut-out b x e f g r by = shut_out b.setup x b (waits b.setup b.iterations
 -- ---- and what they do instead: "Backtracking asks alpha, tests, then alpha*rho"
 
 -- after a finite first answer that does not meet the condition, the step asked is alpha * rho
-pub second-ask : (o : Options) (f0 s0 : Float) (t : Turn) → Starts o f0 s0 (Began t) → (f g : Float)
+pub second-ask : (o : Options) (f0 s0 : Float) (t : Turn) → Starts o f0 s0 (Ok t) → (f g : Float)
     → answer_finite o.condition f g ≡ true → holds_of o.condition f0 s0 o.alpha f g ≡ false
     → finite (o.alpha ⊗ o.rho) ≡ true → (r : Turn) → Follows t.search f g r
     → told r.outcome ≡ asks (o.alpha ⊗ o.rho)

@@ -25,7 +25,7 @@ use Rattle.backtracking.specs.declared.Setup.{Setup}
 use Rattle.backtracking.specs.declared.Stage.{Stage}
 use Rattle.backtracking.specs.declared.Stage.TheVariants.{First, Later, Over}
 use Rattle.backtracking.specs.declared.Backtracking.{Backtracking}
-use Rattle.backtracking.specs.declared.Turn.{Turn}
+use Rattle.backtracking.specs.Machine.{Turn}
 use Rattle.backtracking.specs.Machine.{made_of, tried_of, answer_by, AnswerSaid}
 use Rattle.backtracking.specs.Meaning.{is_over}
 use Rattle.demands.specs.Backtracking.{next_trial, trial_due, is_not_finite, trials_rows, trials_kept, Tried}

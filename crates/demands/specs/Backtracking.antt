@@ -20,11 +20,12 @@ use Rattle.backtracking.specs.declared.Setup.{Setup}
 use Rattle.backtracking.specs.declared.Stage.{Stage}
 use Rattle.backtracking.specs.declared.Stage.TheVariants.{First, Later, Over}
 use Rattle.backtracking.specs.declared.Backtracking.{Backtracking}
-use Rattle.backtracking.specs.declared.Turn.{Turn}
-use Rattle.backtracking.specs.declared.Started.{Started}
-use Rattle.backtracking.specs.declared.Started.TheVariants.{Began, NoSearch}
+use Rattle.backtracking.specs.Machine.{Turn}
+use Rattle.backtracking.specs.Machine.{Started}
+use Rattle.std.specs.Prelude.{Ok, Err}
+use Rattle.refusals.specs.Refusals.{by_number}
 use Rattle.backtracking.specs.Backtracking.{start_rows, setup_of, backtracking}
-use Rattle.backtracking.specs.Machine.{start_of, started_told, StartSaid, answer_of, AnswerSaid}
+use Rattle.backtracking.specs.Machine.{start_of, StartSaid, answer_of, AnswerSaid}
 use Rattle.backtracking.specs.Meaning.{meant, is_over, Starts, Follows}
 
 -- ---- an answer to any state: the trial's step, and whether it is the last that N allows
@@ -121,7 +122,7 @@ module _ (o : Options) (f0 s0 : Float) (t : Turn) where
     -- "each later trial is one iteration": one fewer than the answers accepted, and none before the first
     pub iterations-counted : (ys : List Reply) → (reached_by ys).iterations.0 ≡ finite_by ys - 1
     -- the empty program that refuses every start
-    pub refusing-start-shut-out : (k : Refusal) → Starts o f0 s0 (NoSearch k) → ⊥
+    pub refusing-start-shut-out : (k : Refusal) → Starts o f0 s0 (Err k) → ⊥
     -- demand 3: it ends within 1 + N answers
     pub search-ends : (ys : List Reply) → most_trials o ≤ length ys → is_over (reached_by ys).stage ≡ true
     -- "The reported evaluations equal the finite answers accepted": 1 + N at most, so that no counter stops
@@ -133,15 +134,15 @@ module _ (o : Options) (f0 s0 : Float) (t : Turn) where
 
 pub record BacktrackingDemands : Type 0 where
   pub start : (o : Options) (f0 s0 : Float) (r : Started) → StartSaid o f0 s0 r
-      → Table (refused_by (started_told r)) (start_rows o f0 s0)
+      → Table (refused_by (by_number r)) (start_rows o f0 s0)
   pub answer : (b : Backtracking) (f g : Float) (r : Turn) → AnswerSaid b f g r → Tried b f g r
   -- what meets the rules is no empty program: at the first answer, and in any state that awaits one
-  pub first-shut-out : (o : Options) (f0 s0 : Float) (t : Turn) → Starts o f0 s0 (Began t) → (f g : Float) (r : Turn)
+  pub first-shut-out : (o : Options) (f0 s0 : Float) (t : Turn) → Starts o f0 s0 (Ok t) → (f g : Float) (r : Turn)
       → Follows t.search f g r → EmptyShutOut (setup_of o f0 s0) o.alpha t.search f g r
   pub empty-shut-out : (b : Backtracking) (x : Float) → awaits (meant b) ≡ Some x → (f g : Float) (r : Turn)
       → Follows b f g r → EmptyShutOut b.setup x b f g r
   -- "Backtracking asks alpha, tests, then alpha*rho": a finite first answer does not meet the condition
-  pub second-ask : (o : Options) (f0 s0 : Float) (t : Turn) → Starts o f0 s0 (Began t) → (f g : Float)
+  pub second-ask : (o : Options) (f0 s0 : Float) (t : Turn) → Starts o f0 s0 (Ok t) → (f g : Float)
       → answer_finite o.condition f g ≡ true → holds_of o.condition f0 s0 o.alpha f g ≡ false
       → finite (o.alpha ⊗ o.rho) ≡ true → (r : Turn) → Follows t.search f g r
       → told r.outcome ≡ asks (o.alpha ⊗ o.rho)

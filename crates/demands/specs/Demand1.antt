@@ -13,20 +13,17 @@ use Rattle.runs.specs.Counters.{one_more}
 use Rattle.refusals.specs.Refusals.{given, TableBy, Table, refused_by}
 use Rattle.refusals.specs.declared.Refusal.{Refusal}
 use Rattle.runs.specs.Outcomes.{refusal_in}
-use Rattle.vectors.specs.declared.DotResult.{DotResult}
-use Rattle.vectors.specs.declared.PointResult.{PointResult}
+use Rattle.vectors.specs.declared.Refusal as Vectors
 use Rattle.vectors.specs.Faults.{Fault, number_in}
 use Rattle.vectors.specs.Vectors.{dot_rows, point_rows}
 use Rattle.vectors.specs.Told.{dot_told, DotSaid, point_told, PointSaid}
 use Rattle.vectors.specs.Positions.{DotAt, OneCondition, PointAt}
 use Rattle.conditions.specs.declared.Condition.{Condition}
-use Rattle.conditions.specs.declared.Checked.{Checked}
-use Rattle.conditions.specs.declared.Checked.TheVariants.{Fit}
 use Rattle.conditions.specs.Conditions.{condition_rows}
-use Rattle.conditions.specs.Told.{checked_told, CheckedSaid}
+use Rattle.conditions.specs.Told.{CheckedSaid}
 use Rattle.curves.specs.declared.Curve.{Curve}
 use Rattle.curves.specs.Curves.{value_of, slope_of, curve_rows}
-use Rattle.curves.specs.Told.{curve_told, NumberedSaid}
+use Rattle.curves.specs.Told.{NumberedSaid}
 use Rattle.hagerzhang_rules.specs.declared.Point.{Point}
 use Rattle.hagerzhang_rules.specs.declared.Way.TheVariants.{Growing}
 use Rattle.hagerzhang_rules.specs.declared.Came.TheVariants.{On}
@@ -38,13 +35,12 @@ use Rattle.hagerzhang_rules.specs.Iterations.{standing, had, AskedBecause, Ended
 use Rattle.fields.specs.Fields.{Field}
 use Rattle.jobs.specs.declared.Job.{Job}
 use Rattle.jobs.specs.Format.{WellFormed, means_of}
-use Rattle.jobs.specs.declared.Reading.{Reading}
+use Rattle.jobs.specs.declared.refusal.Malformed.{Malformed}
 use Rattle.jobs.specs.Reader.{read_told, ReadSaid}
-use Rattle.jobs.specs.declared.Opened.{Opened}
-use Rattle.jobs.specs.Opening.{job_rows, opened_told, BeginSaid}
+use Rattle.jobs.specs.Opening.{Opened, job_rows, opened_told, BeginSaid}
 use Rattle.hagerzhang.specs.Machine.{Turn, Started}
 use Rattle.hagerzhang.specs.declared.state.Search.{Search}
-use Rattle.hagerzhang.specs.Machine.{started_told, StartSaid, AnswerSaid}
+use Rattle.hagerzhang.specs.Machine.{StartSaid, AnswerSaid}
 use Rattle.hagerzhang.specs.Meaning.{report, is_over, OfTheStep}
 use Rattle.demands.specs.Runs.{Gave, reached_by, told_after, and_then, points_asked}
 
@@ -133,35 +129,35 @@ module _ (o : Options) (f0 s0 : Float) (t : Turn) where
 
 pub record Demand1 : Type 0 where
   -- 1, 2, 4, of a dot and of a point; their rows give the number and the index
-  pub dot : (a b : List Float) (r : DotResult) → DotSaid a b r
+  pub dot : (a b : List Float) (r : Rust.Result Float Vectors.Refusal) → DotSaid a b r
       → TableBy number_in (refused_by (dot_told r)) (dot_rows a b)
-  pub point : (x0 : List Float) (alpha : Float) (d held : List Float) (r : PointResult) (now : List Float)
+  pub point : (x0 : List Float) (alpha : Float) (d held : List Float) (r : Rust.Result Unit Vectors.Refusal) (now : List Float)
       → PointSaid x0 alpha d held r now
       → TableBy number_in (refused_by (point_told r now)) (point_rows x0 alpha d (length held))
   -- 02, request 1: the index is that of "the first element at fault"
-  pub dot_at : (a b : List Float) (r : DotResult) → DotSaid a b r → DotAt a b (dot_told r)
-  pub point_at : (x0 : List Float) (alpha : Float) (d held : List Float) (r : PointResult) (now : List Float)
+  pub dot_at : (a b : List Float) (r : Rust.Result Float Vectors.Refusal) → DotSaid a b r → DotAt a b (dot_told r)
+  pub point_at : (x0 : List Float) (alpha : Float) (d held : List Float) (r : Rust.Result Unit Vectors.Refusal) (now : List Float)
       → PointSaid x0 alpha d held r now → PointAt x0 alpha d (point_told r now)
   -- "a dot .. comes out not finite", and some partial sum does: one condition
   pub one-condition : (ps : List Float) → OneCondition ps
   -- "buffers untouched"
-  pub buffer : (x0 : List Float) (alpha : Float) (d held : List Float) (r : PointResult) (now : List Float) (k : Fault)
+  pub buffer : (x0 : List Float) (alpha : Float) (d held : List Float) (r : Rust.Result Unit Vectors.Refusal) (now : List Float) (k : Fault)
       → PointSaid x0 alpha d held r now → point_told r now ≡ refused k → now ≡ held
   -- 2 and 3 of a condition
-  pub condition : (C : Condition) (r : Checked) → CheckedSaid C r
-      → Table (refused_by (checked_told r)) (condition_rows C)
+  pub condition : (C : Condition) (r : Rust.Result Condition Refusal) → CheckedSaid C r
+      → Table (refused_by (by_number r)) (condition_rows C)
   -- a condition that is not refused is handed on as it came
-  pub condition-kept : (C D : Condition) → CheckedSaid C (Fit D) → D ≡ C
+  pub condition-kept : (C D : Condition) → CheckedSaid C (Ok D) → D ≡ C
   -- 3 of a curve's number
   pub curve : (n : ℕ) (r : Rust.Result Curve Refusal) → NumberedSaid n r
-      → Table (refused_by (curve_told r)) (curve_rows n)
+      → Table (refused_by (by_number r)) (curve_rows n)
   -- 2, 3, 10, 4 of a start, with no search
   pub start : (o : Options) (f0 s0 : Float) (r : Started) → StartSaid o f0 s0 r
-      → Table (refused_by (started_told r)) (start_rows o f0 s0)
+      → Table (refused_by (by_number r)) (start_rows o f0 s0)
   -- 9, by the format: bytes that hold a job are read as it, and bytes that hold none are refused
-  pub job_read : (bytes : List ℕ) (r : Reading) → ReadSaid bytes r → (fs : List Field) (j : Job) → WellFormed 0 fs bytes
+  pub job_read : (bytes : List ℕ) (r : Rust.Result Job Malformed) → ReadSaid bytes r → (fs : List Field) (j : Job) → WellFormed 0 fs bytes
       → means_of fs ≡ value j → read_told r ≡ value j
-  pub no-job : (bytes : List ℕ) (r : Reading) → ReadSaid bytes r
+  pub no-job : (bytes : List ℕ) (r : Rust.Result Job Malformed) → ReadSaid bytes r
       → ((fs : List Field) (j : Job) → WellFormed 0 fs bytes → means_of fs ≡ value j → ⊥) → read_told r ≡ refused 9
   -- 9, then 2, 3, 4, over the whole job, with no search
   pub no-job-begun : (bytes : List ℕ) (r : Opened) → BeginSaid bytes r

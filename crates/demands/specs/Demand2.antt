@@ -22,7 +22,6 @@ use Rattle.hagerzhang_rules.specs.Parameters.{level_of, setup_of}
 use Rattle.hagerzhang_rules.specs.Rules.{point, answer_finite, zero_of, grown_of, Report, hager_zhang}
 use Rattle.hagerzhang_rules.specs.Iterations.{report_finite}
 use Rattle.curves.specs.declared.Curve.{Curve}
-use Rattle.jobs.specs.declared.Opened.TheVariants.{Begun}
 use Rattle.jobs.specs.Opening.{BeginSaid}
 use Rattle.hagerzhang.specs.declared.state.Search.{Search}
 use Rattle.hagerzhang.specs.Machine.{awaited_of, AnswerSaid}
@@ -77,7 +76,7 @@ pub record GivenByStart (t : Turn) : Type 0 where
 pub record Demand2 : Type 0 where
   pub search-given : (o : Options) (f0 s0 : Float) (t : Turn) → Gave o f0 s0 t → ByRules o f0 s0 t
   -- a job's search is one
-  pub job-given : (bytes : List ℕ) (c : Curve) (t : Turn) → BeginSaid bytes (Begun c t) → GivenByStart t
+  pub job-given : (bytes : List ℕ) (c : Curve) (t : Turn) → BeginSaid bytes (Ok (c, t)) → GivenByStart t
   -- one answer to any state, made by hand or not, whose limit is a u32 and whose L is no NaN: it is the rules' answer
   pub any-state : (s : Search) (f g : Float) (r : Turn) → AnswerSaid s f g r → s.setup.options.limit < 4294967296
       → is_nan s.setup.level ≡ false → Follows s f g r

@@ -4,8 +4,10 @@
 -- exception in form: `wire::from` and `fields::body` hand out a part of the slice that they are lent. Their contracts
 -- say all that can be read there.
 use Rattle.std.specs.Prelude.{ℕ, ◌≡◌, List, Float, Option}
+use Rattle.text.specs.declared.Cursor.{Cursor}
 use Rattle.text.specs.Text.{Writes}
-use Rattle.vectors.specs.declared.PointResult.{PointResult}
+use Rattle.vectors.specs.declared.Refusal as Vectors
+use Rattle.std.specs.Prelude as Rust
 use Rattle.vectors.specs.Told.{DotSaid, PointSaid}
 use Rattle.runs.specs.declared.Outcome.{Outcome}
 use Rattle.runs.specs.Outcomes.{told}
@@ -15,7 +17,6 @@ use Rattle.curves.specs.declared.Curve.{Curve}
 use Rattle.curves.specs.Told.{NumberedSaid}
 use Rattle.jobs.specs.Reader.{ReadSaid}
 use Rattle.jobs.specs.Opening.{BeginSaid}
-use Rattle.play.specs.declared.Written.{Written}
 use Rattle.play.specs.Playing.{PlaySaid}
 use Rattle.backtracking.specs.declared.Options.{Options as Trials}
 use Rattle.backtracking.specs.declared.Backtracking.{Backtracking}
@@ -46,11 +47,13 @@ pub record Determined : Type 1 where
   pub list-checked : (n : ℕ) (xs : List Float) → One (ListSaid n xs)
   pub scan : (t : Table) (xs : List Float) → One (ScanSaid t xs)
   -- with a lent buffer: its contents at exit too
-  pub point : (x0 : List Float) (alpha : Float) (d held : List Float) (r q : PointResult) (now later : List Float)
+  pub point : (x0 : List Float) (alpha : Float) (d held : List Float) (r q : Rust.Result Unit Vectors.Refusal)
+      (now later : List Float)
       → PointSaid x0 alpha d held r now → PointSaid x0 alpha d held q later → (r ≡ q) × (now ≡ later)
-  pub writing : (before : List ℕ) (at : ℕ) (text : List ℕ) (after later : List ℕ) (i j : ℕ)
-      → Writes before at text after i → Writes before at text later j → (after ≡ later) × (i ≡ j)
-  pub play : (c : Curve) (from : Option Turn) (turns : ℕ) (before : List ℕ) (at : ℕ) (r q : Written) (a b : List ℕ)
-      → PlaySaid c from turns before at r a → PlaySaid c from turns before at q b → (r ≡ q) × (a ≡ b)
+  pub writing : (before : Cursor) (text : List ℕ) (after later : Cursor) → Writes before text after
+      → Writes before text later → (after.buffer.now ≡ later.buffer.now) × (after.at ≡ later.at)
+  pub play : (c : Curve) (from : Option Turn) (turns : ℕ) (before : Cursor) (r q : Option Turn) (a b : Cursor)
+      → PlaySaid c from turns before r a → PlaySaid c from turns before q b
+      → (r ≡ q) × (a.buffer.now ≡ b.buffer.now) × (a.at ≡ b.at)
   -- what is told of an outcome, by which the rules speak of it, tells it whole
   pub outcome : (r q : Outcome) → told r ≡ told q → r ≡ q

@@ -35,7 +35,7 @@ use Rattle.hagerzhang_rules.specs.Rules.{hager_zhang}
 use Rattle.hagerzhang.specs.Machine.{Turn}
 use Rattle.hagerzhang.specs.Meaning.{report}
 use Rattle.backtracking.specs.declared.Options.{Options as TrialOptions}
-use Rattle.backtracking.specs.declared.Turn.{Turn as TrialTurn}
+use Rattle.backtracking.specs.Machine.{Turn as TrialTurn}
 use Rattle.backtracking.specs.Backtracking.{setup_of as trial_setup, backtracking}
 use Rattle.backtracking.specs.Machine.{start_of as trials_start}
 use Rattle.demands.specs.Runs.{Gave, machine as hager_zhang_machine}

@@ -12,7 +12,7 @@ use Rattle.runs.specs.Asking.{Reply, reached, told_next, tallied}
 use Rattle.conditions.specs.declared.Condition.TheVariants.{Armijo}
 use Rattle.conditions.specs.Conditions.{answer_finite}
 use Rattle.backtracking.specs.declared.Options.{Options as TrialOptions}
-use Rattle.backtracking.specs.declared.Turn.{Turn as TrialTurn}
+use Rattle.backtracking.specs.Machine.{Turn as TrialTurn}
 use Rattle.backtracking.specs.Machine.{start_of as trials_start}
 use Rattle.backtracking.specs.Meaning.{is_over as trials_over}
 use Rattle.hagerzhang_rules.specs.declared.Way.{Way}
