@@ -50,8 +50,7 @@ pub fn fault(out: &mut [u8], at: usize, k: Refusal) -> usize
     let n = k.number();
     match k {
         Refusal::Lengths => lines::refused(out, at, n),
-        Refusal::SuppliedNotFinite(i) => refused_at(out, at, n, i),
-        Refusal::ResultNotFinite(i) => refused_at(out, at, n, i),
+        Refusal::SuppliedNotFinite(i) | Refusal::ResultNotFinite(i) => refused_at(out, at, n, i),
     }
 }
 

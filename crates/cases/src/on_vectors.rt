@@ -2,8 +2,6 @@
 
 ghost use Rattle.std.specs.Prelude.{◌≤◌, length};
 
-use vectors::{DotResult, PointResult};
-
 // n floats of the body, from a place on, to the front of v.
 fn vector(body: &[u8], at: usize, v: &mut [f64], n: usize)
     requires { n ≤ length v.old }
@@ -15,8 +13,8 @@ fn dot_line(out: &mut [u8], at: usize, a: &[f64], n: usize, b: &[f64], m: usize)
     requires { (n ≤ length a.now) × (m ≤ length b.now) }
 {
     match vectors::dot(&a[..n], &b[..m]) {
-        DotResult::Value(v) => case_lines::value(out, at, v),
-        DotResult::Refused(k) => case_lines::fault(out, at, k),
+        Ok(v) => case_lines::value(out, at, v),
+        Err(k) => case_lines::fault(out, at, k),
     }
 }
 
@@ -44,8 +42,8 @@ fn point_line(
     requires { (n ≤ length x0.now) × (m ≤ length d.now) × (k ≤ length buffer.old) }
 {
     match vectors::point(&x0[..n], alpha, &d[..m], &mut buffer[..k]) {
-        PointResult::Written => text::word(out, at, b"POINT\n"),
-        PointResult::Untouched(k) => case_lines::fault(out, at, k),
+        Ok(()) => text::word(out, at, b"POINT\n"),
+        Err(k) => case_lines::fault(out, at, k),
     }
 }
 

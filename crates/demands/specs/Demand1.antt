@@ -2,7 +2,7 @@
 -- after the end are refused by number. Document 01 fixes each refusal, the state after it and any lent buffer." Every
 -- public function is total by its contract; here is what each refuses, of vectors at which index, and what a refusal
 -- leaves.
-use Rattle.std.specs.Prelude.{ℕ, ◌≡◌, true, false, cond, not, ◌&&◌, List, [], ◌∷◌, eqb, length, Float}
+use Rattle.std.specs.Prelude.{ℕ, ◌≡◌, true, false, cond, not, ◌&&◌, List, [], ◌∷◌, eqb, length, Float, Result}
 use Rattle.std.proofs.Math.Option.{some, none}
 use Rattle.std.specs.Float.Ieee.Scale.{finite}
 use Rattle.floats.specs.Arithmetic.{◌<ᶠ◌}
@@ -12,8 +12,7 @@ use Rattle.runs.specs.Asking.{Reply}
 use Rattle.runs.specs.Counters.{one_more}
 use Rattle.refusals.specs.Refusals.{given, TableBy, Table, refused_by}
 use Rattle.runs.specs.Outcomes.{refusal_in}
-use Rattle.vectors.specs.declared.DotResult.{DotResult}
-use Rattle.vectors.specs.declared.PointResult.{PointResult}
+use Rattle.vectors.specs.declared.Refusal.{Refusal}
 use Rattle.vectors.specs.Faults.{Fault, number_in}
 use Rattle.vectors.specs.Vectors.{dot_rows, point_rows}
 use Rattle.vectors.specs.Told.{dot_told, DotSaid, point_told, PointSaid}
@@ -134,20 +133,20 @@ module _ (o : Options) (f0 s0 : Float) (t : Turn) where
 
 pub record Demand1 : Type 0 where
   -- 1, 2, 4, of a dot and of a point; their rows give the number and the index
-  pub dot : (a b : List Float) (r : DotResult) → DotSaid a b r
+  pub dot : (a b : List Float) (r : Result Float Refusal) → DotSaid a b r
       → TableBy number_in (refused_by (dot_told r)) (dot_rows a b)
-  pub point : (x0 : List Float) (alpha : Float) (d held : List Float) (r : PointResult) (now : List Float)
-      → PointSaid x0 alpha d held r now
+  pub point : (x0 : List Float) (alpha : Float) (d held : List Float) (r : Result (Unit {0}) Refusal)
+      (now : List Float) → PointSaid x0 alpha d held r now
       → TableBy number_in (refused_by (point_told r now)) (point_rows x0 alpha d (length held))
   -- 02, request 1: the index is that of "the first element at fault"
-  pub dot_at : (a b : List Float) (r : DotResult) → DotSaid a b r → DotAt a b (dot_told r)
-  pub point_at : (x0 : List Float) (alpha : Float) (d held : List Float) (r : PointResult) (now : List Float)
-      → PointSaid x0 alpha d held r now → PointAt x0 alpha d (point_told r now)
+  pub dot_at : (a b : List Float) (r : Result Float Refusal) → DotSaid a b r → DotAt a b (dot_told r)
+  pub point_at : (x0 : List Float) (alpha : Float) (d held : List Float) (r : Result (Unit {0}) Refusal)
+      (now : List Float) → PointSaid x0 alpha d held r now → PointAt x0 alpha d (point_told r now)
   -- "a dot .. comes out not finite", and some partial sum does: one condition
   pub one-condition : (ps : List Float) → OneCondition ps
   -- "buffers untouched"
-  pub buffer : (x0 : List Float) (alpha : Float) (d held : List Float) (r : PointResult) (now : List Float) (k : Fault)
-      → PointSaid x0 alpha d held r now → point_told r now ≡ refused k → now ≡ held
+  pub buffer : (x0 : List Float) (alpha : Float) (d held : List Float) (r : Result (Unit {0}) Refusal)
+      (now : List Float) (k : Fault) → PointSaid x0 alpha d held r now → point_told r now ≡ refused k → now ≡ held
   -- 2 and 3 of a condition
   pub condition : (C : Condition) (r : Checked) → CheckedSaid C r
       → Table (refused_by (checked_told r)) (condition_rows C)

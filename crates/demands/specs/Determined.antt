@@ -3,9 +3,9 @@
 -- other public function's contract is an equation of the result itself, `r ≡ ..`, and that is the field `equation`. One
 -- exception in form: `wire::from` and `fields::body` hand out a part of the slice that they are lent. Their contracts
 -- say all that can be read there.
-use Rattle.std.specs.Prelude.{ℕ, ◌≡◌, List, Float}
+use Rattle.std.specs.Prelude.{ℕ, ◌≡◌, List, Float, Result}
 use Rattle.text.specs.Text.{Writes}
-use Rattle.vectors.specs.declared.PointResult.{PointResult}
+use Rattle.vectors.specs.declared.Refusal.{Refusal}
 use Rattle.vectors.specs.Told.{DotSaid, PointSaid}
 use Rattle.runs.specs.declared.Outcome.{Outcome}
 use Rattle.runs.specs.Outcomes.{told}
@@ -46,8 +46,9 @@ pub record Determined : Type 1 where
   pub list-checked : (n : ℕ) (xs : List Float) → One (ListSaid n xs)
   pub scan : (t : Table) (xs : List Float) → One (ScanSaid t xs)
   -- with a lent buffer: its contents at exit too
-  pub point : (x0 : List Float) (alpha : Float) (d held : List Float) (r q : PointResult) (now later : List Float)
-      → PointSaid x0 alpha d held r now → PointSaid x0 alpha d held q later → (r ≡ q) × (now ≡ later)
+  pub point : (x0 : List Float) (alpha : Float) (d held : List Float) (r q : Result (Unit {0}) Refusal)
+      (now later : List Float) → PointSaid x0 alpha d held r now → PointSaid x0 alpha d held q later
+      → (r ≡ q) × (now ≡ later)
   pub writing : (before : List ℕ) (at : ℕ) (text : List ℕ) (after later : List ℕ) (i j : ℕ)
       → Writes before at text after i → Writes before at text later j → (after ≡ later) × (i ≡ j)
   pub play : (c : Curve) (from : Played) (turns : ℕ) (before : List ℕ) (at : ℕ) (r q : Written) (a b : List ℕ)
