@@ -2,7 +2,7 @@
 -- after the end are refused by number. Document 01 fixes each refusal, the state after it and any lent buffer." Every
 -- public function is total by its contract; here is what each refuses, of vectors at which index, and what a refusal
 -- leaves.
-use Rattle.std.specs.Prelude.{ℕ, ◌≡◌, true, false, cond, not, ◌&&◌, List, [], ◌∷◌, eqb, length, Float, Some, None}
+use Rattle.std.specs.Prelude.{ℕ, ◌≡◌, true, false, cond, not, ◌&&◌, List, [], ◌∷◌, eqb, length, Float, Some, None, Ok}
 use Rattle.std.specs.Prelude as Rust
 use Rattle.std.specs.Float.Ieee.Scale.{finite}
 use Rattle.floats.specs.Arithmetic.{◌<ᶠ◌}
@@ -10,7 +10,7 @@ use Rattle.refusals.specs.Results.{value, refused, Row}
 use Rattle.runs.specs.Outcomes.{Ending, refusal, Why, numbered, Told, asks, ends, told}
 use Rattle.runs.specs.Asking.{Reply}
 use Rattle.runs.specs.Counters.{one_more}
-use Rattle.refusals.specs.Refusals.{given, TableBy, Table, refused_by}
+use Rattle.refusals.specs.Refusals.{by_number, given, TableBy, Table, refused_by}
 use Rattle.refusals.specs.declared.Refusal.{Refusal}
 use Rattle.runs.specs.Outcomes.{refusal_in}
 use Rattle.vectors.specs.declared.Refusal as Vectors
@@ -131,17 +131,20 @@ pub record Demand1 : Type 0 where
   -- 1, 2, 4, of a dot and of a point; their rows give the number and the index
   pub dot : (a b : List Float) (r : Rust.Result Float Vectors.Refusal) → DotSaid a b r
       → TableBy number_in (refused_by (dot_told r)) (dot_rows a b)
-  pub point : (x0 : List Float) (alpha : Float) (d held : List Float) (r : Rust.Result Unit Vectors.Refusal) (now : List Float)
+  pub point : (x0 : List Float) (alpha : Float) (d held : List Float) (r : Rust.Result Unit Vectors.Refusal)
+      (now : List Float)
       → PointSaid x0 alpha d held r now
       → TableBy number_in (refused_by (point_told r now)) (point_rows x0 alpha d (length held))
   -- 02, request 1: the index is that of "the first element at fault"
   pub dot_at : (a b : List Float) (r : Rust.Result Float Vectors.Refusal) → DotSaid a b r → DotAt a b (dot_told r)
-  pub point_at : (x0 : List Float) (alpha : Float) (d held : List Float) (r : Rust.Result Unit Vectors.Refusal) (now : List Float)
+  pub point_at : (x0 : List Float) (alpha : Float) (d held : List Float) (r : Rust.Result Unit Vectors.Refusal)
+      (now : List Float)
       → PointSaid x0 alpha d held r now → PointAt x0 alpha d (point_told r now)
   -- "a dot .. comes out not finite", and some partial sum does: one condition
   pub one-condition : (ps : List Float) → OneCondition ps
   -- "buffers untouched"
-  pub buffer : (x0 : List Float) (alpha : Float) (d held : List Float) (r : Rust.Result Unit Vectors.Refusal) (now : List Float) (k : Fault)
+  pub buffer : (x0 : List Float) (alpha : Float) (d held : List Float) (r : Rust.Result Unit Vectors.Refusal)
+      (now : List Float) (k : Fault)
       → PointSaid x0 alpha d held r now → point_told r now ≡ refused k → now ≡ held
   -- 2 and 3 of a condition
   pub condition : (C : Condition) (r : Rust.Result Condition Refusal) → CheckedSaid C r

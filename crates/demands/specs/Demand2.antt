@@ -5,7 +5,7 @@
 -- Of S2 to S4 request 4: "Demands 2 and 3 read the mended rule."
 -- (Backtracking: specs/Backtracking.antt. Equal to the Rust's: run and compared, README; of the start of three answers
 -- alone.)
-use Rattle.std.specs.Prelude.{ℕ, ◌<◌, ◌≡◌, true, false, List, Float, Some, None, Err}
+use Rattle.std.specs.Prelude.{ℕ, ◌<◌, ◌≡◌, true, false, List, Float, Some, None, Err, Ok}
 use Rattle.std.specs.Float.Ieee.{is_nan}
 use Rattle.std.specs.Float.Ieee.Scale.{finite}
 use Rattle.floats.specs.Arithmetic.{◌⊗◌, 5ᶠ}
