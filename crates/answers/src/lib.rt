@@ -11,10 +11,10 @@ use std::num::saturating_f64_to_u32;
 // Why a list is refused, in the order in which the reasons are tried.
 #[derive(Clone, Copy, Debug, PartialEq, Eq)]
 pub enum Refusal {
-    // 1: its length is no multiple of 3
-    Lengths,
-    // 3: a number in it names no search
-    NoSuchSearch,
+    // its length is no multiple of 3
+    Lengths = 1,
+    // a number in it names no search
+    NoSuchSearch = 3,
 }
 
 impl Refusal {
@@ -22,10 +22,7 @@ impl Refusal {
     pub fn number(self) -> u32
         ensures { result ≡ refusal_number self }
     {
-        match self {
-            Refusal::Lengths => 1,
-            Refusal::NoSuchSearch => 3,
-        }
+        self as u32
     }
 }
 

@@ -2,8 +2,9 @@
 -- rule once, as a decision; then the flow over them as a run of questions and answers. A point is (x, f, g): step, cost
 -- and slope. A bracket is (a, b). L is the setup's level. The types are declared in src/lib.rt, with their cases: what
 -- an answer comes to is `To` a bracket, or `On` in U3 with its ends h and k. What a trial of a start that grows comes
--- to is `None` where it was too short; so are a further trial's step, and a verdict, where there is none. The marked sums M1 to M12 are said of this text in specs/MarkedSums.antt. specs/Brackets.antt
--- and specs/Iterations.antt have the words for what is proved of it along any answers.
+-- to is `None` where it was too short; so are a further trial's step, and a verdict, where there is none. The marked
+-- sums M1 to M12 are said of this text in specs/MarkedSums.antt. specs/Brackets.antt and specs/Iterations.antt have the
+-- words for what is proved of it along any answers.
 use Rattle.std.specs.Prelude.{ℕ, zero, suc, ◌+◌, Bool, cond, not, ◌&&◌, ◌||◌, Float, Option, Some, None}
 use Rattle.std.specs.Float.{binary64}
 use Rattle.std.specs.Float.Ieee.{of_bits}

@@ -1,7 +1,7 @@
 // What an answer to a Hager-Zhang search leads to. It comes to a bracket or goes on in U3 (Came), something follows in
 // the iteration (Then), the search moves (Move), and one place writes the next state. An answer of the start leads to
-// its next step or to its end (Opened), or to a refusal. The files go down in this order: the entry here, opening.rt and
-// iteration.rt, moves.rt, state.rt. The crate hagerzhang puts the search around them.
+// its next step or to its end (Opened), or to a refusal. The files go down in this order: the entry here, opening.rt
+// and iteration.rt, moves.rt, state.rt. The crate hagerzhang puts the search around them.
 //
 // The enums Then, Move, Tested and Opened are pub only so that the proofs of hagerzhang can name them: no use
 // line below hands them on, and no code of another crate can.

@@ -1,4 +1,5 @@
--- What `read` finds and leaves, field by field, is what the reader does: what is read there is the job. Assumes nothing.
+-- What `read` finds and leaves, field by field, is what the reader does: what is read there is the job. Assumes
+-- nothing.
 use mathlib.Core.Path.{◌≡◌, refl}
 use mathlib.Core.Bool.{Bool, true, false, cond}
 use mathlib.Core.List.{List}

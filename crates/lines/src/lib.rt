@@ -34,7 +34,7 @@ pub fn refused(page: &mut Cursor, n: u32)
     page.number_line(b"REFUSED ", n as u64);
 }
 
-// `STOP word`, the beginning of a stop's line.
+// `STOP word`, the beginning of a stop's line. It is no Display, which would not say what a full buffer holds.
 fn verdict(page: &mut Cursor, v: Verdict)
     ensures { Writes page.old (bytes "STOP " ++ verdict_text (verdict_word v)) page.new }
 {

@@ -47,7 +47,8 @@ pub trait Machine: Copy {
     // whether it is over
     ghost over: { Self → Bool };
 
-    // One answer, cost f and slope g: the search with it, and what comes next.
+    // One answer, cost f and slope g: the search with it, and what comes next. They stay two numbers, here and below: a
+    // struct of both would be made at each call and taken apart in each rule, and is no plainer.
     fn answer(self, f: f64, g: f64) -> Turn<Self>
         ensures { result ≡ turn self f g };
 
@@ -83,6 +84,8 @@ fn one_more(n: u32) -> u32
     n.saturating_add(1)
 }
 
+// The two counters are types of their own, so that none is taken for the other. One generic type would want a type that
+// marks it, and a field for that: it is no plainer.
 impl Evaluations {
     pub fn next(self) -> Evaluations
         ensures { result ≡ evaluations (one_more self.0) }

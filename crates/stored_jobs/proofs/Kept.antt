@@ -83,7 +83,8 @@ four_bytes s h = by-curve (stands 1 1 s) refl
     by-curve : (b : Bool) → stands 1 1 s ≡ b → 4 ≤ length s
     by-curve true e = within s 0 1 1 e
     by-curve false e =
-        absurd (false≢true (ap is_job (no-curve s (not_found 1 1 s e)) ∙ and_first (is_job (job_of s)) (not (eqb (byte_at s 4) 2)) h))
+        let none = ap is_job (no-curve s (not_found 1 1 s e)) in
+        absurd (false≢true (none ∙ and_first (is_job (job_of s)) (not (eqb (byte_at s 4) 2)) h))
 
 single : (l : List ℕ) → length l ≡ 1 → l ≡ byte_at l 0 ∷ []
 single [] h = absurd (omega arith)

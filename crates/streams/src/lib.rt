@@ -112,7 +112,8 @@ pub fn receive(
 }
 
 // Reads until the buffer is full or the input ends, in as many reads as it takes: how many bytes are at the front of
-// the buffer, all that it holds or all that the input has left.
+// the buffer, all that it holds or all that the input has left. A read gives any number of bytes, so no `for` counts
+// them, and a full buffer asks for no further read.
 pub fn fill(rt: &impl Eprint, input: &mut impl Read, buf: &mut [u8]) -> Result<usize, Lost>
     ensures { Fills (length buf.old) result }
 {

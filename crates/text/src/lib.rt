@@ -1,5 +1,6 @@
 // Text written into a lent buffer: bytes, words and numbers. A cursor holds the buffer and the place of the next byte;
-// each method writes there, as much as there is room for, and moves the place behind it.
+// each method writes there, as much as there is room for, and moves the place behind it. `write!` and Display would say
+// less: where the buffer is full they fail, and nothing is known of what was written before.
 
 #![tactic(auto)]
 

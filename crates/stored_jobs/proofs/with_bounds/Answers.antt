@@ -18,7 +18,8 @@ pub returns-then-relies : goal.returns-then-relies
 unfolding kept_of
 returns-then-relies c =
     let relied : relies c.args.job.now ≡ true = sym c.relies.ensures ∙ c.if-relies.true in
-    rw (relied, ← c.from.ensures) (then _ _ (then _ _ c.word.ensures c.word-then-relies.ensures) c.word-then-relies-2.ensures)
+    let front = then _ _ c.word.ensures c.word-then-relies.ensures in
+    rw (relied, ← c.from.ensures) (then _ _ front c.word-then-relies-2.ensures)
 
 pub returns-else-relies : goal.returns-else-relies
 unfolding kept_of
