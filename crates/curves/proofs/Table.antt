@@ -1,7 +1,7 @@
 -- The table's rules. The code's rows, end to end, are the table (`code-rows`), and a row is a curve of it
 -- (`curve-of-row`). A test that holds of each entry holds at every place; so each coefficient is an i8
--- (`coefficient-fits`). And nothing is lost in the cast to f64: cast back, each coefficient is what it was (`cast-back`).
--- Assumes nothing.
+-- (`coefficient-fits`). And nothing is lost in the cast to f64: cast back, each coefficient is what it was
+-- (`cast-back`). Assumes nothing.
 use Rattle.std.proofs.Common.{◌≡◌, ℕ, zero, suc, ◌+◌, ◌*◌, ◌<◌, Bool, true, ◌&&◌, eqb, List, [], ◌∷◌, ◌++◌, map, length}
 use Rattle.std.proofs.Common.{get_or, refl, ◌∙◌, ◌^◌, T, ltb, subst, arith, add-zero, eqb-true, ℤ, pos}
 use Rattle.std.proofs.lemmas.List.{get_or_append_left, get_or-append-add}

@@ -158,7 +158,8 @@ pub record Demand1 : Type 0 where
   pub start : (o : Options) (f0 s0 : Float) (r : Started) → StartSaid o f0 s0 r
       → Table (refused_by (by_number r)) (start_rows o f0 s0)
   -- 9, by the format: bytes that hold a job are read as it, and bytes that hold none are refused
-  pub job_read : (bytes : List ℕ) (r : Rust.Result Job Malformed) → ReadSaid bytes r → (fs : List Field) (j : Job) → WellFormed 0 fs bytes
+  pub job_read : (bytes : List ℕ) (r : Rust.Result Job Malformed) → ReadSaid bytes r
+      → (fs : List Field) (j : Job) → WellFormed 0 fs bytes
       → means_of fs ≡ value j → read_told r ≡ value j
   pub no-job : (bytes : List ℕ) (r : Rust.Result Job Malformed) → ReadSaid bytes r
       → ((fs : List Field) (j : Job) → WellFormed 0 fs bytes → means_of fs ≡ value j → ⊥) → read_told r ≡ refused 9

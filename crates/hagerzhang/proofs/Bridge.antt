@@ -84,7 +84,8 @@ denote_step t = (meant t.search, told t.outcome)
 
 -- ---- U3's next step, in an iteration and in the start, while n answers may come: 6, 5, 7. Whatever is `built` of the
 -- test's result, it is the rules' U3, where each refusal is the rules' and a step that passes is asked
-module _ (s : Setup) (k : Report) (built : Rust.Result Narrowing Refusal → Next) (h : Point) (k' : Float) (then : Bracket → Rest Report)
+module _ (s : Setup) (k : Report) (built : Rust.Result Narrowing Refusal → Next) (h : Point) (k' : Float)
+    (then : Bracket → Rest Report)
     (refuses : (r : Refusal) (why : Why) → number_of r ≡ number_for why
     → denote s (built (Err r)) ≡ seen (end_with k (refusal why)))
     (passes : (d : Float) (n : ℕ)

@@ -49,8 +49,8 @@ module _ (P : Report → Type 0) (s : Setup) (k : Report) (here : P k) where
       passes.goes-on-further s (keeping k) k Q (λ why. over here) (λ x then go. waits here go) (S4 w c.x u) u
       (L2 s.options.params.gamma w) (λ i. then) go)
 
-  grows : (n : ℕ) (t : Point) (grown : Option Came) (then : Bracket → Rest Report) → ((u : Bracket) → Reports P (then u))
-      → Reports P (growth s (keeping k) k n t grown then)
+  grows : (n : ℕ) (t : Point) (grown : Option Came) (then : Bracket → Rest Report)
+      → ((u : Bracket) → Reports P (then u)) → Reports P (growth s (keeping k) k n t grown then)
   grows n t grown then go =
       passes.grows s (keeping k) k Q (λ why. over here) (λ x then go. waits here go) n t grown (λ i. then) go
 

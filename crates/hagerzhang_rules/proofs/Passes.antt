@@ -143,8 +143,8 @@ module _ {I K R : Type 0} (s : Setup) (refuse : Why → R) (kept : K) (Q : (I �
   goes_further (Some x) u then go = tries x _ (λ fx f g. updates u (point x f g) then (λ v p. go v))
 
   -- two in a row, the second by what the first came to
-  pub goes-on-further : (e : Option Float) (u : Bracket) (e' : Bracket → Option Float) (then : I → Bracket → Bracket → Run K R)
-      → ((v z : Bracket) → Q (λ i. then i v z))
+  pub goes-on-further : (e : Option Float) (u : Bracket) (e' : Bracket → Option Float)
+      (then : I → Bracket → Bracket → Run K R) → ((v z : Bracket) → Q (λ i. then i v z))
       → Q (λ i. further s refuse kept e u (λ v. further s refuse kept (e' v) v (then i v)))
   goes-on-further e u e' then go = goes_further e u _ (λ v. goes_further (e' v) v (λ i. then i v) (go v))
 

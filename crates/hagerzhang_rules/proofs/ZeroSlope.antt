@@ -236,7 +236,8 @@ module _ (s : Setup) where
         by_cases (λ (r : Rest Report). Goes r (behind (Some 1ᶠ) mark) r3) (finite x)
         (λ is. absurd (false≢true (sym e ∙ is))) (λ is. apart-here)
 
-    by-e : (e : Option Float) → Goes (behind e former) (behind (unless_five e (Some 1ᶠ)) mark) (behind (unless_five e d) now)
+    by-e : (e : Option Float)
+        → Goes (behind e former) (behind (unless_five e (Some 1ᶠ)) mark) (behind (unless_five e d) now)
     by-e None = goes None
     by-e (Some x) =
         by-cases₂ (λ (m e : Option Float). Goes (behind (Some x) former) (behind m mark) (behind e now)) (finite x)

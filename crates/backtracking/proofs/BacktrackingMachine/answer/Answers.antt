@@ -1,5 +1,5 @@
--- `backtracking::Backtracking::answer` meets its contract: the next state is the bookkeeping's, and so the rules'. The state was
--- handed in, so each number in it fits its type, which `omega` reads. Assumes nothing.
+-- `backtracking::Backtracking::answer` meets its contract: the next state is the bookkeeping's, and so the rules'. The
+-- state was handed in, so each number in it fits its type, which `omega` reads. Assumes nothing.
 use mathlib.Core.Path.{◌∙◌}
 use native.Mathlib.Omega.{arith}
 use Rattle.backtracking.specs.Machine.{answer_by}

@@ -1,4 +1,5 @@
--- `hagerzhang::Search::answer` meets its contract: the next state is the bookkeeping's, and so the rules'. Assumes nothing.
+-- `hagerzhang::Search::answer` meets its contract: the next state is the bookkeeping's, and so the rules'. Assumes
+-- nothing.
 use Prim.Native.Nat.{◌<◌}
 use native.Mathlib.Omega.{arith}
 use Rattle.hagerzhang.specs.Machine.{answer_by}

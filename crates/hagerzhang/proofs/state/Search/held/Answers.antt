@@ -1,4 +1,5 @@
--- `hagerzhang::Search::held` meets its contract: what a state holds, which is what the rules report there. Assumes nothing.
+-- `hagerzhang::Search::held` meets its contract: what a state holds, which is what the rules report there. Assumes
+-- nothing.
 use Rattle.hagerzhang.specs.Machine.{held_at}
 use Rattle.hagerzhang.proofs.Answering.{held-promised}
 use Rattle.hagerzhang.proofs.state.Search.held.Goals as goal
