@@ -56,18 +56,28 @@ fn turned<M: Machine, K: FnOnce(M) -> Current>(t: Turn<M>, kind: K) -> Told
     }
 }
 
-pub(crate) fn hager_zhang(b: HagerZhangStart) -> Told {
-    match hagerzhang::start(b.options, b.f0, b.s0) {
-        Ok(t) => turned(t, Current::HagerZhang),
-        Err(r) => refused(r),
+// A start of either kind.
+fn started<M: Machine, K: FnOnce(M) -> Current>(r: Result<Turn<M>, Refusal>, kind: K) -> Told
+    requires { K.IsAlwaysCallable kind }
+{
+    match r {
+        Ok(t) => turned(t, kind),
+        Err(refusal) => refused(refusal),
     }
 }
 
+pub(crate) fn hager_zhang(b: HagerZhangStart) -> Told {
+    started(
+        hagerzhang::start(b.options, b.f0, b.s0),
+        Current::HagerZhang,
+    )
+}
+
 pub(crate) fn backtracks(b: BacktrackingStart) -> Told {
-    match backtracking::start(b.options, b.f0, b.s0) {
-        Ok(t) => turned(t, Current::Backtracks),
-        Err(r) => refused(r),
-    }
+    started(
+        backtracking::start(b.options, b.f0, b.s0),
+        Current::Backtracks,
+    )
 }
 
 // An answer. Where the start was refused there is nobody else to refuse it; where there is no case the field is

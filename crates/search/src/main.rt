@@ -6,6 +6,7 @@ ghost use Rattle.play.proofs.Ending.{Playable};
 
 use curves::Curve;
 use hagerzhang::Turn;
+use jobs::Refusal;
 use text::Cursor;
 
 // The lines of the whole play, as far as standard output takes them. It ends: each turn leaves less to tell.
@@ -26,10 +27,10 @@ fn tell(rt: &(impl Print + Eprint), c: Curve, first: Turn)
     }
 }
 
-fn refuse(rt: &(impl Print + Eprint), number: u32) {
+fn refuse(rt: &(impl Print + Eprint), refusal: Refusal) {
     let mut buffer = [0u8; 80];
     let mut page = Cursor::new(&mut buffer);
-    lines::refused(&mut page, number);
+    lines::refused(&mut page, refusal.number());
     let n = page.at;
     streams::send(rt, streams::nothing_sent(), &buffer, n);
 }
@@ -37,7 +38,7 @@ fn refuse(rt: &(impl Print + Eprint), number: u32) {
 fn run(rt: &(impl Print + Eprint), job: &[u8]) {
     match jobs::begin(job) {
         Ok((c, t)) => tell(rt, c, t),
-        Err(refusal) => refuse(rt, refusal.number()),
+        Err(refusal) => refuse(rt, refusal),
     }
 }
 
