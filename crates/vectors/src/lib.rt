@@ -76,7 +76,8 @@ fn check_supplied(xs: &[f64], ys: &[f64]) -> Result<(), Refusal>
     }
 }
 
-// 01: "Dot adds products from the left, starting with the first product."
+// 01: "Dot adds products from the left, starting with the first product." Of a `reduce` and of a `fold` over the
+// pairs the check found no proof.
 #[tactic(auto, using(crate::proofs::Elements::sums))]
 fn left_sum(a: &[f64], b: &[f64]) -> f64
     requires { (0 < length a.now) × (length a.now ≡ length b.now) }
