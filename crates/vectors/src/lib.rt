@@ -76,7 +76,9 @@ fn check_supplied(xs: &[f64], ys: &[f64]) -> Result<(), Refusal>
     }
 }
 
-// 01: "Dot adds products from the left, starting with the first product."
+// 01: "Dot adds products from the left, starting with the first product." Of a `reduce` and of a `fold` over the
+// pairs the check found no proof.
+#[tactic(auto, using(crate::proofs::Elements::sums))]
 fn left_sum(a: &[f64], b: &[f64]) -> f64
     requires { (0 < length a.now) × (length a.now ≡ length b.now) }
     ensures { result ≡ left_sum (products a.now b.now) }
@@ -131,6 +133,7 @@ fn first_bad_moved(x0: &[f64], alpha: f64, d: &[f64]) -> Option<usize>
 }
 
 // 01: "A point is x0[i] + alpha*d[i]."
+#[tactic(auto, using(crate::proofs::Elements::stores))]
 fn write_moved(x0: &[f64], alpha: f64, d: &[f64], out: &mut [f64])
     requires { (length x0.now ≡ length d.now) × (length x0.now ≡ length out.old) }
     ensures { out.new ≡ moved x0.now alpha d.now }

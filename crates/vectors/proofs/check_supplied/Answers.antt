@@ -6,21 +6,18 @@ use Rattle.vectors.proofs.First.{first-is, first-none}
 use Rattle.vectors.proofs.Faults.{bad-in-any, bad-in-none}
 use Rattle.vectors.proofs.check_supplied.Goals as goal
 
-pub returns-in-Some : goal.returns-in-Some
-returns-in-Some c =
+pub returns-in-Some-clause-said : goal.returns-in-Some-clause-said
+returns-in-Some-clause-said c =
     let xs = c.args.xs.now in
     let ys = c.args.ys.now in
     let it = c.in-Some.ensures in
-    let found = sym (first-is (bad_in_any xs ys) _ _ it) in record {
-      said = (ap not (bad-in-any xs ys c.requires _ found it.below), ap SuppliedNotFinite found);
-      none_bad = tt;
-    }
+    let found = sym (first-is (bad_in_any xs ys) _ _ it) in
+    (ap not (bad-in-any xs ys c.requires _ found it.below), ap SuppliedNotFinite found)
 
-pub returns-in-None : goal.returns-in-None
-returns-in-None c =
-    let xs = c.args.xs.now in
-    let ys = c.args.ys.now in
-    let end = first-none (bad_in_any xs ys) _ c.in-None.ensures in record {
-      said = ap not (bad-in-none xs ys c.requires _ (sym end) (omega arith));
-      none_bad = end;
-    }
+pub returns-in-None-clause-none_bad : goal.returns-in-None-clause-none_bad
+returns-in-None-clause-none_bad c = first-none (bad_in_any c.args.xs.now c.args.ys.now) _ c.in-None.ensures
+
+pub returns-in-None-clause-said : goal.returns-in-None-clause-said
+returns-in-None-clause-said c =
+    let end = returns-in-None-clause-none_bad c in
+    ap not (bad-in-none c.args.xs.now c.args.ys.now c.requires _ (sym end) (omega arith))
