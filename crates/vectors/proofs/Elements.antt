@@ -9,8 +9,8 @@ use native.Mathlib.Omega.{arith}
 use lib.ListN.{length, get_or, drop, take, set, drop_of_length-le}
 use lib.Seq.{drop-cons, take_all}
 use lib.Ieee.{Float, nan}
-use Rattle.floats.specs.Arithmetic.{◌⊕◌, ◌⊗◌}
-use Rattle.vectors.specs.Vectors.{bad_length, left_sum, products, moved, moved_by}
+use Rattle.floats.specs.Arithmetic.{◌⊕◌}
+use Rattle.vectors.specs.Vectors.{bad_length, left_sum, moved, moved_by}
 
 -- ---- a length that is taken
 pub not-empty : (n : ℕ) → bad_length n ≡ false → 0 < n
@@ -59,28 +59,3 @@ store (y ∷ d) (x ∷ m) (suc i) h k = ap (◌∷◌ x) (store d m i (le_of_suc
 
 pub stored : (d m : List Float) (i : ℕ) → length d ≤ i → length m ≤ i → take i m ++ drop i d ≡ m
 stored d m i h k = rw (take_all i m k, drop_of_length-le d h) (append-nil m)
-
--- ---- what a loop over two vectors takes of these
-pub products-length : (a b : List Float) → length a ≡ length b → length (products a b) ≡ length a
-products-length a b e = zip_length ◌⊗◌ a b e
-
-pub product-at : (a b : List Float) (i : ℕ) → i < length a → length a ≡ length b
-    → get_or (products a b) i nan ≡ get_or a i nan ⊗ get_or b i nan
-product-at a b i h e = zip-at ◌⊗◌ a b i h (omega arith)
-
-pub moved-length : (x0 : List Float) (alpha : Float) (d : List Float) → length x0 ≡ length d
-    → length (moved x0 alpha d) ≡ length x0
-moved-length x0 alpha d e = zip_length (moved_by alpha) x0 d e
-
-pub moved-store : (x0 : List Float) (alpha : Float) (d held : List Float) (i : ℕ) → i < length x0
-    → length x0 ≡ length d → length x0 ≡ length held
-    → set (take i (moved x0 alpha d) ++ drop i held) i (get_or x0 i nan ⊕ alpha ⊗ get_or d i nan)
-    ≡ take (i + 1) (moved x0 alpha d) ++ drop (i + 1) held
-moved-store x0 alpha d held i h e f =
-    let long = moved-length x0 alpha d e in
-    let v = moved_at x0 alpha d i h e in
-    rw (← v, add-one) (store held (moved x0 alpha d) i (omega arith) (omega arith))
-
-pub ruleset sums = (sum-start, sum_step, sum-end, products-length, product-at)
-
-pub ruleset stores = (moved-store, stored, moved-length)

@@ -16,7 +16,7 @@ abbrev pub number_of : Refusal → ℕ
 number_of k = number_in (fault_of k)
 
 -- what a check says that refuses by k where vectors are bad
-abbrev pub CheckSaid : Bool → Refusal → Result (Unit {0}) Refusal → Type 0
+abbrev pub CheckSaid : {A : Type 0} → Bool → Refusal → Result A Refusal → Type 0
 CheckSaid bad k (Ok _) = bad ≡ false
 CheckSaid bad k (Err e) = (bad ≡ true) × (e ≡ k)
 

@@ -2,7 +2,7 @@
 
 #![tactic(auto)]
 
-ghost use Rattle.std.specs.Prelude.{◌≡◌, ◌<◌, ◌||◌, ◌&&◌, false, not, length, OnOk};
+ghost use Rattle.std.specs.Prelude.{◌≡◌, ◌<◌, ◌||◌, ◌&&◌, false, not, eqb, length, OnOk, IfOk};
 ghost use Rattle.std.specs.Float.Ieee.Scale.{finite};
 ghost use Rattle.vectors.specs.Faults.{first, FirstFound};
 ghost use Rattle.vectors.specs.Vectors.{bad_length, all_finite, bad, bad_in_any, products, left_sum, sum_bad, moved};
@@ -23,7 +23,7 @@ pub enum Refusal {
 }
 
 impl Refusal {
-    // The number by which 01 knows the refusal.
+    // The number by which 01 knows the refusal. The cases carry an index, so it is no cast.
     pub fn number(self) -> u32
         ensures { result ≡ number_of self }
     {
@@ -42,104 +42,117 @@ fn bad_length(n: usize) -> bool
     (n == 0) | (256 < n)
 }
 
-// Refuses a length n that a vector may not have, and lengths that are not the `same`.
-fn check_lengths(n: usize, same: bool) -> Result<(), Refusal>
-    ensures { CheckSaid (bad_length n || not same) Refusal.Lengths result }
-{
-    if bad_length(n) || !same {
-        Err(Refusal::Lengths)
-    } else {
-        Ok(())
-    }
+// Two vectors of one length, which vectors may have.
+#[derive(Clone, Copy)]
+struct Pair<'a> {
+    xs: &'a [f64],
+    ys: &'a [f64],
+    ghost alike: { length xs.now ≡ length ys.now },
+    ghost some: { 0 < length xs.now },
 }
 
-// The first index at which either vector is not finite.
-fn first_bad(xs: &[f64], ys: &[f64]) -> Option<usize>
-    requires { length xs.now ≡ length ys.now }
-    ensures { FirstFound (bad_in_any xs.now ys.now) (length xs.now) result }
-{
-    xs.iter()
-        .zip(ys)
-        .position(|(x, y)| !numbers::both_finite(*x, *y))
-}
-
-// Refuses two vectors of which either has a number that is not finite.
-fn check_supplied(xs: &[f64], ys: &[f64]) -> Result<(), Refusal>
-    requires { length xs.now ≡ length ys.now }
-    ensures said { let i = first (bad_in_any xs.now ys.now) (length xs.now) in
-        CheckSaid (not (all_finite xs.now && all_finite ys.now)) (Refusal.SuppliedNotFinite i) result }
-    ensures none_bad { OnOk result (first (bad_in_any xs.now ys.now) (length xs.now) ≡ length xs.now) }
-{
-    match first_bad(xs, ys) {
-        Some(i) => Err(Refusal::SuppliedNotFinite(i)),
-        None => Ok(()),
-    }
-}
-
-// 01: "Dot adds products from the left, starting with the first product." Of a `reduce` and of a `fold` over the
-// pairs the check found no proof.
-#[tactic(auto, using(crate::proofs::Elements::sums))]
-fn left_sum(a: &[f64], b: &[f64]) -> f64
-    requires { (0 < length a.now) × (length a.now ≡ length b.now) }
-    ensures { result ≡ left_sum (products a.now b.now) }
-{
-    let mut s = a[0] * b[0];
-    for i in 1..a.len() {
-        s += a[i] * b[i];
-    }
-    s
-}
-
-// The first index whose partial sum is not finite, of a dot that is not. Once a partial sum is not finite, no later one
-// is, so the sum alone is looked at first, and this only where it is not finite.
-fn first_overflow(a: &[f64], b: &[f64]) -> usize
-    requires a_nonzero { (0 < length a.now) × (length a.now ≡ length b.now) }
-    requires b_value { finite (left_sum (products a.now b.now)) ≡ false }
-    ensures { result ≡ first (sum_bad (products a.now b.now)) (length a.now) }
-{
-    let mut sum = a[0] * b[0];
-    for i in 1..a.len() {
-        if !numbers::is_finite(sum) {
-            return i - 1;
+impl<'a> Pair<'a> {
+    // Takes xs and ys as a pair, or refuses their lengths.
+    fn new(xs: &'a [f64], ys: &'a [f64]) -> Result<Pair<'a>, Refusal>
+        ensures said { CheckSaid (bad_length (length xs.now) || not (eqb (length xs.now) (length ys.now)))
+            Refusal.Lengths result }
+        ensures same { IfOk result (λ pair. (pair.xs.now ≡ xs.now) × (pair.ys.now ≡ ys.now)) }
+    {
+        if bad_length(xs.len()) || xs.len() != ys.len() {
+            return Err(Refusal::Lengths);
         }
-        sum += a[i] * b[i];
+        Ok(Pair { xs, ys })
     }
-    a.len() - 1
+
+    // The first index at which either vector is not finite.
+    fn first_bad(self) -> Option<usize>
+        ensures { FirstFound (bad_in_any self.entry.xs.now self.entry.ys.now) (length self.entry.xs.now) result }
+    {
+        self.xs
+            .iter()
+            .zip(self.ys)
+            .position(|(x, y)| !numbers::both_finite(*x, *y))
+    }
+
+    // Refuses vectors of which either has a number that is not finite.
+    fn check_supplied(self) -> Result<(), Refusal>
+        ensures said { let i = first (bad_in_any self.entry.xs.now self.entry.ys.now) (length self.entry.xs.now) in
+            CheckSaid (not (all_finite self.entry.xs.now && all_finite self.entry.ys.now))
+            (Refusal.SuppliedNotFinite i) result }
+        ensures none_bad { OnOk result
+            (first (bad_in_any self.entry.xs.now self.entry.ys.now) (length self.entry.xs.now)
+            ≡ length self.entry.xs.now) }
+    {
+        match self.first_bad() {
+            Some(i) => Err(Refusal::SuppliedNotFinite(i)),
+            None => Ok(()),
+        }
+    }
+
+    // 01: "Dot adds products from the left, starting with the first product." Of a `reduce` and of a `fold` over the
+    // pairs the check found no proof. A dot that is finite looks at no partial sum, which `first_overflow` does.
+    fn left_sum(self) -> f64
+        ensures { result ≡ left_sum (products self.entry.xs.now self.entry.ys.now) }
+    {
+        let Pair { xs, ys } = self;
+        let mut s = xs[0] * ys[0];
+        for i in 1..xs.len() {
+            s += xs[i] * ys[i];
+        }
+        s
+    }
+
+    // The first index whose partial sum is not finite, of a dot that is not. Once a partial sum is not finite, no later
+    // one is, so the sum alone is looked at first, and this only where it is not finite.
+    fn first_overflow(self) -> usize
+        requires { finite (left_sum (products self.xs.now self.ys.now)) ≡ false }
+        ensures { result ≡ first (sum_bad (products self.entry.xs.now self.entry.ys.now)) (length self.entry.xs.now) }
+    {
+        let Pair { xs, ys } = self;
+        let mut sum = xs[0] * ys[0];
+        for i in 1..xs.len() {
+            if !numbers::is_finite(sum) {
+                return i - 1;
+            }
+            sum += xs[i] * ys[i];
+        }
+        xs.len() - 1
+    }
+
+    // The first index at which x + alpha * y is not finite. One function with `first_bad` would take the test as a
+    // closure, and its clauses would speak of that: it is no plainer.
+    #[tactic(auto, using(crate::proofs::Elements::moved_at))]
+    fn first_bad_moved(self, alpha: f64) -> Option<usize>
+        ensures { FirstFound (bad (moved self.entry.xs.now alpha self.entry.ys.now)) (length self.entry.xs.now) result }
+    {
+        self.xs
+            .iter()
+            .zip(self.ys)
+            .position(|(x, y)| !numbers::is_finite(*x + alpha * *y))
+    }
+
+    // 01: "A point is x0[i] + alpha*d[i]."
+    fn write_moved(self, alpha: f64, out: &mut [f64])
+        requires { length self.xs.now ≡ length out.old }
+        ensures { out.new ≡ moved self.entry.xs.now alpha self.entry.ys.now }
+    {
+        for (i, x) in out.iter_mut().enumerate() {
+            *x = self.xs[i] + alpha * self.ys[i];
+        }
+    }
 }
 
 // The dot of a and b, or the first refusal that applies.
 pub fn dot(a: &[f64], b: &[f64]) -> Result<f64, Refusal>
     ensures { DotSaid a.now b.now result }
 {
-    check_lengths(a.len(), a.len() == b.len())?;
-    check_supplied(a, b)?;
-    let s = left_sum(a, b);
+    let pair = Pair::new(a, b)?;
+    pair.check_supplied()?;
+    let s = pair.left_sum();
     if numbers::is_finite(s) {
         Ok(s)
     } else {
-        Err(Refusal::ResultNotFinite(first_overflow(a, b)))
-    }
-}
-
-// The first index at which x0 + alpha * d is not finite.
-#[tactic(auto, using(crate::proofs::Elements::moved_at))]
-fn first_bad_moved(x0: &[f64], alpha: f64, d: &[f64]) -> Option<usize>
-    requires { length x0.now ≡ length d.now }
-    ensures { FirstFound (bad (moved x0.now alpha d.now)) (length x0.now) result }
-{
-    x0.iter()
-        .zip(d)
-        .position(|(x, e)| !numbers::is_finite(*x + alpha * *e))
-}
-
-// 01: "A point is x0[i] + alpha*d[i]."
-#[tactic(auto, using(crate::proofs::Elements::stores))]
-fn write_moved(x0: &[f64], alpha: f64, d: &[f64], out: &mut [f64])
-    requires { (length x0.now ≡ length d.now) × (length x0.now ≡ length out.old) }
-    ensures { out.new ≡ moved x0.now alpha d.now }
-{
-    for (i, x) in out.iter_mut().enumerate() {
-        *x = x0[i] + alpha * d[i];
+        Err(Refusal::ResultNotFinite(pair.first_overflow()))
     }
 }
 
@@ -149,14 +162,17 @@ pub fn point(x0: &[f64], alpha: f64, d: &[f64], out: &mut [f64]) -> Result<(), R
     ensures { PointSaid x0.now alpha d.now out.old result out.new }
 {
     let n = x0.len();
-    check_lengths(n, (n == d.len()) & (n == out.len()))?;
-    check_supplied(x0, d)?;
+    let pair = Pair::new(x0, d)?;
+    if out.len() != n {
+        return Err(Refusal::Lengths);
+    }
+    pair.check_supplied()?;
     if !numbers::is_finite(alpha) {
         return Err(Refusal::SuppliedNotFinite(n));
     }
-    if let Some(k) = first_bad_moved(x0, alpha, d) {
+    if let Some(k) = pair.first_bad_moved(alpha) {
         return Err(Refusal::ResultNotFinite(k));
     }
-    write_moved(x0, alpha, d, out);
+    pair.write_moved(alpha, out);
     Ok(())
 }
