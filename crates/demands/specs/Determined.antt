@@ -1,8 +1,8 @@
 -- 01, "How tight the contracts are": "Each contract determines result, next state and buffers for each input, refused
 -- ones as well; any two results it allows are proved identical". The relations are those that the contracts cite. Every
--- other public function's contract is an equation of the result itself, `r ≡ ..`, and that is the field `equation`. One
--- exception in form: `wire::from` and `fields::body` hand out a part of the slice that they are lent. Their contracts
--- say all that can be read there.
+-- other public function's contract has an equation of the result itself, `r ≡ ..`, and that is the field `equation`; a
+-- bound may stand beside it. Two exceptions in form: `wire::from` and `fields::body` hand out a part of the slice that
+-- they are lent, and `Cursor::new` the buffer. Their contracts say all that can be read there.
 use Rattle.std.specs.Prelude.{ℕ, ◌≡◌, List, Float, Option}
 use Rattle.text.specs.declared.Cursor.{Cursor}
 use Rattle.text.specs.Text.{Writes}

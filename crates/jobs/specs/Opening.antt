@@ -9,8 +9,7 @@ use Rattle.hagerzhang_rules.specs.declared.Setup.{Setup}
 use Rattle.hagerzhang_rules.specs.Parameters.{options_finite, range_rows, start_rows, setup_of}
 use Rattle.curves.specs.declared.Curve.{Curve}
 use Rattle.curves.specs.Curves.{has_number, numbered_at, value_of, slope_of}
-use Rattle.hagerzhang.specs.Machine.{Turn}
-use Rattle.hagerzhang.specs.Machine.{fresh_of}
+use Rattle.hagerzhang.specs.Machine.{Turn, fresh_of}
 use Rattle.jobs.specs.declared.Job.{Job}
 use Rattle.jobs.specs.Reader.{job_of}
 use Rattle.jobs.specs.declared.refusal.Refusal.{Refusal}

@@ -10,8 +10,7 @@ use Rattle.text.specs.Text.{Writes}
 use Rattle.curves.specs.declared.Curve.{Curve}
 use Rattle.curves.specs.Curves.{value_of, slope_of}
 use Rattle.hagerzhang.specs.declared.state.Search.{Search}
-use Rattle.hagerzhang.specs.Machine.{Turn}
-use Rattle.hagerzhang.specs.Machine.{answer_of}
+use Rattle.hagerzhang.specs.Machine.{Turn, answer_of}
 use Rattle.hagerzhang.specs.Meaning.{report}
 use Rattle.play.specs.Telling.{Said, text_of}
 
