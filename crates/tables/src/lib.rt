@@ -12,8 +12,8 @@ use refusals::Refusal;
 use runs::{Evaluations, Iterations, Outcome};
 use seats::{Held, Seat};
 
-// An array with a size beside it: memory is fixed here, and the theorems of ManyAnswers read both, also of a table that was
-// made by hand and says that it has more than its seats.
+// An array with a size beside it: memory is fixed here, and the theorems of ManyAnswers read both, also of a table that
+// was made by hand and says that it has more than its seats.
 #[derive(Clone, Copy)]
 pub struct Table {
     pub seats: [Seat; 32],
