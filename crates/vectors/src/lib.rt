@@ -103,6 +103,7 @@ impl<'a> Pair<'a> {
 
     // The first index whose partial sum is not finite, of a dot that is not. Once a partial sum is not finite, no later
     // one is, so the sum alone is looked at first, and this only where it is not finite.
+    // No plainer in one with `left_sum`: clauses and invariant would speak of a closure at each partial sum.
     fn first_overflow(self) -> usize
         requires { finite (left_sum (products self.xs.now self.ys.now)) ≡ false }
         ensures { result ≡ first (sum_bad (products self.entry.xs.now self.entry.ys.now)) (length self.entry.xs.now) }
@@ -119,6 +120,7 @@ impl<'a> Pair<'a> {
     }
 
     // The first index at which x + alpha * y is not finite.
+    // No plainer in one with `first_bad`: the clause of a search that takes the test as a closure is longer than both.
     #[tactic(auto, using(crate::proofs::Elements::moved_at))]
     fn first_bad_moved(self, alpha: f64) -> Option<usize>
         ensures { FirstFound (bad (moved self.entry.xs.now alpha self.entry.ys.now)) (length self.entry.xs.now) result }
