@@ -1,4 +1,5 @@
--- 01, refusal 8: a search that is over refuses whatever is said to it, and stays as it is. Assumes nothing.
+-- 01, refusal 8: a search that is over refuses whatever is said to it, and stays as it is. It is the law `stays` of
+-- the trait Machine; the source names the proof, and may name what stands in specs/ alone. Assumes nothing.
 use mathlib.Core.Path.{◌≡◌, refl}
 use mathlib.Core.Bool.{true, false≢true}
 use lib.Ieee.{Float}

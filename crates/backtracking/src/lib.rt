@@ -121,8 +121,8 @@ fn fresh(s: Setup) -> Turn
 // ---- an answer
 
 impl Backtracking {
-    // It is over.
-    fn over(self, outcome: Outcome) -> Turn
+    // It ends.
+    fn ended(self, outcome: Outcome) -> Turn
         ensures { result ≡ made_of self.setup self.evaluations self.iterations Over outcome }
     {
         Turn {
@@ -156,7 +156,7 @@ impl Backtracking {
         let s = self.setup;
         let o = s.options;
         if !o.condition.answer_finite(f, g) {
-            return self.over(Outcome::Refused(Refusal::SuppliedNotFinite));
+            return self.ended(Outcome::Refused(Refusal::SuppliedNotFinite));
         }
         let counted = Backtracking {
             evaluations: self.evaluations.next(),
@@ -164,16 +164,16 @@ impl Backtracking {
             ..self
         };
         if o.condition.holds(s.f0, s.s0, t, f, g) {
-            return counted.over(Outcome::Stop(Verdict::Met, t));
+            return counted.ended(Outcome::Stop(Verdict::Met, t));
         }
         if o.limit <= now.0 {
-            return counted.over(Outcome::Limit(t));
+            return counted.ended(Outcome::Limit(t));
         }
         let shorter = t * o.rho;
         if numbers::is_finite(shorter) {
             return counted.asks(shorter);
         }
-        counted.over(Outcome::Refused(Refusal::StepNotFinite))
+        counted.ended(Outcome::Refused(Refusal::StepNotFinite))
     }
 }
 

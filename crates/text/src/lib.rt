@@ -8,10 +8,10 @@ ghost use Rattle.std.specs.Prelude.{[], ◌∷◌, ◌≡◌, ◌<◌};
 ghost use Rattle.text.specs.Text.{Writes, digit, hex_of, decimal_of, decimal_up_to};
 ghost use Rattle.text.specs.Figures.{next_text, floats_text, floats_line, number_line};
 
+// A lent buffer, and the place of the next byte.
 #[derive(Drop)]
 pub struct Cursor<'a> {
     pub buffer: &'a mut [u8],
-    // the place of the next byte
     pub at: usize,
 }
 
@@ -61,6 +61,7 @@ impl Cursor<'_> {
         }
     }
 
+    // The bytes of w, one after the other.
     pub fn word(&mut self, w: &[u8])
         ensures { Writes self.old w.now self.new }
     {
@@ -109,6 +110,7 @@ impl Cursor<'_> {
         self.hex(numbers::bits_of(x));
     }
 
+    // Each float with a blank before it.
     fn floats(&mut self, xs: &[f64])
         ensures { Writes self.old (floats_text xs.now) self.new }
     {

@@ -42,7 +42,7 @@ fn bad_length(n: usize) -> bool
     (n == 0) | (256 < n)
 }
 
-// Two vectors of one length, which vectors may have.
+// Two vectors of the same length, from 1 to 256 elements. Both facts are those that its methods need.
 #[derive(Clone, Copy)]
 struct Pair<'a> {
     xs: &'a [f64],
@@ -104,6 +104,7 @@ impl<'a> Pair<'a> {
 
     // The first index whose partial sum is not finite, of a dot that is not. Once a partial sum is not finite, no later
     // one is, so the sum alone is looked at first, and this only where it is not finite.
+    // No plainer in one with `left_sum`: clauses and invariant would speak of a closure at each partial sum.
     fn first_overflow(self) -> usize
         requires { finite (left_sum (products self.xs.now self.ys.now)) ≡ false }
         ensures { result ≡ first (sum_bad (products self.entry.xs.now self.entry.ys.now)) (length self.entry.xs.now) }
@@ -119,8 +120,8 @@ impl<'a> Pair<'a> {
         xs.len() - 1
     }
 
-    // The first index at which x + alpha * y is not finite. One function with `first_bad` would take the test as a
-    // closure, and its clauses would speak of that: it is no plainer.
+    // The first index at which x + alpha * y is not finite.
+    // No plainer in one with `first_bad`: the clause of a search that takes the test as a closure is longer than both.
     #[tactic(auto, using(crate::proofs::Elements::moved_at))]
     fn first_bad_moved(self, alpha: f64) -> Option<usize>
         ensures { FirstFound (bad (moved self.entry.xs.now alpha self.entry.ys.now)) (length self.entry.xs.now) result }
