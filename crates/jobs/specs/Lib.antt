@@ -1,3 +1,4 @@
 pub mod Format
 pub mod Reader
 pub mod Opening
+pub mod Tags

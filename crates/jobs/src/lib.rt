@@ -12,6 +12,7 @@ ghost use Rattle.hagerzhang_rules.specs.Parameters.{default_options};
 ghost use Rattle.jobs.specs.Format.{way_in, options_of};
 ghost use Rattle.jobs.specs.Opening.{over_curve, begun_by, BeginSaid};
 ghost use Rattle.jobs.specs.Reader.{found, behind, ReadSaid};
+ghost use Rattle.jobs.specs.Tags.{tag_of, length_of};
 
 use curves::Curve;
 use hagerzhang::Turn;
@@ -29,15 +30,42 @@ pub struct Job {
     pub options: Options,
 }
 
-// The body of the field with this tag and this length of its body, where the bytes begin with one; and what is behind
-// it, which is all of the bytes where it is absent.
+// The fields of a job, with their tags.
+#[derive(Clone, Copy)]
+enum Tag {
+    Curve = 1,
+    Bounds = 2,
+    Start = 3,
+    Epsilon = 4,
+    Budget = 5,
+    Limit = 6,
+}
+
+impl Tag {
+    // How long the body of such a field is.
+    fn size(self) -> usize
+        ensures { result ≡ length_of self }
+    {
+        match self {
+            Tag::Curve => 1,
+            Tag::Bounds => 16,
+            Tag::Start | Tag::Epsilon => 8,
+            Tag::Budget | Tag::Limit => 2,
+        }
+    }
+}
+
+// The body of the field with this tag, where the bytes begin with one; and what is behind it, which is all of the bytes
+// where it is absent.
 #[tactic(auto, unfolding(crate::specs::Reader::stands, crate::specs::Reader::found, crate::specs::Reader::behind))]
-fn field(s: &[u8], tag: u8, size: usize) -> (Option<&[u8]>, &[u8])
-    ensures body { option_copied result.0 ≡ found tag size s.now }
-    ensures rest { result.1.now ≡ behind tag size s.now }
+fn field(s: &[u8], tag: Tag) -> (Option<&[u8]>, &[u8])
+    ensures body { option_copied result.0 ≡ found (tag_of tag) (length_of tag) s.now }
+    ensures rest { result.1.now ≡ behind (tag_of tag) (length_of tag) s.now }
 {
     match fields::head(s) {
-        Some(h) if h.tag == tag && h.size == size => (Some(fields::body(s)), &s[fields::end(s)..]),
+        Some(h) if h.tag == tag as u8 && h.size == tag.size() => {
+            (Some(fields::body(s)), &s[fields::end(s)..])
+        }
         _ => (None, s),
     }
 }
@@ -88,13 +116,13 @@ fn options(
 pub fn read(job: &[u8]) -> Result<Job, Malformed>
     ensures { ReadSaid job.now result }
 {
-    let (curve, rest) = field(job, 1, 1);
+    let (curve, rest) = field(job, Tag::Curve);
     let curve = curve.ok_or(Malformed)?;
-    let (bounds, rest) = field(rest, 2, 16);
-    let (start, rest) = field(rest, 3, 8);
-    let (epsilon, rest) = field(rest, 4, 8);
-    let (budget, rest) = field(rest, 5, 2);
-    let (limit, rest) = field(rest, 6, 2);
+    let (bounds, rest) = field(rest, Tag::Bounds);
+    let (start, rest) = field(rest, Tag::Start);
+    let (epsilon, rest) = field(rest, Tag::Epsilon);
+    let (budget, rest) = field(rest, Tag::Budget);
+    let (limit, rest) = field(rest, Tag::Limit);
     if !rest.is_empty() {
         return Err(Malformed);
     }
