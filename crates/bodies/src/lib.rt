@@ -88,7 +88,7 @@ pub fn hager_zhang(body: &[u8]) -> HagerZhangStart
     start_with(body, Way::Bounded(bounds(body)), quad(body, 92))
 }
 
-// Where it is growing, min and max are not read.
+// Where it is growing, min and max are not read. `way_of` gives every byte a way, so this is no TryFrom.
 #[tactic(auto, unfolding(crate::specs::Bodies::way_of))]
 fn way(body: &[u8]) -> Way
     ensures { result ≡ way_of body.now }
@@ -101,7 +101,7 @@ fn way(body: &[u8]) -> Way
 }
 
 // N; or 0, which no search may have, where R is not 0. No search has an R: any other is refused (3), as N is, and in
-// its place.
+// its place. `limit_of` says the 0, so this is no Option.
 #[tactic(auto, unfolding(crate::specs::Bodies::limit_of))]
 fn limit(body: &[u8]) -> u32
     ensures { result ≡ limit_of body.now }
@@ -118,7 +118,8 @@ pub fn whole(body: &[u8]) -> HagerZhangStart
     start_with(body, way(body), limit(body))
 }
 
-// Another byte than 1 to 4 is malformed, and never comes here.
+// Another byte than 1 to 4 is malformed, and never comes here. `condition_of` gives every byte a condition, so this is
+// no TryFrom.
 #[tactic(auto, unfolding(crate::specs::Bodies::condition_of))]
 fn condition(kind: u8, c1: f64, c2: f64) -> Condition
     ensures { result ≡ condition_of kind c1 c2 }

@@ -90,12 +90,14 @@ impl Tag {
     }
 }
 
+// The byte is tested here, and read in the crate bodies, which gives any byte a way.
 fn has_way(body: &[u8]) -> bool
     ensures { result ≡ is_way (byte_at body.now 96) }
 {
     wire::byte(body, 96) <= 1
 }
 
+// As above, of a condition.
 fn has_condition(body: &[u8]) -> bool
     ensures { result ≡ is_condition (byte_at body.now 0) }
 {
@@ -140,7 +142,7 @@ fn point_field(body: &[u8]) -> Result<Field, Malformed>
     }
 }
 
-// Whether a field with this tag may have a body of this size. Where it may not, the field is malformed by its head.
+// Whether a field with this tag, any number, may have a body of this size. Where it may not, the field is malformed by its head.
 #[tactic(auto, using(crate::proofs::Lengths::may_have_of_none))]
 pub fn may_have(tag: u8, size: usize) -> bool
     ensures { result ≡ may_have tag size }

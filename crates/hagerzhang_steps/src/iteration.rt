@@ -74,7 +74,8 @@ fn onward(gamma: f64, w: Bracket, t: Trial, left: u32, came: Came) -> Then
     }
 }
 
-// What follows the update of a trial.
+// What follows the update of a trial, by the rule that asked it: the state keeps the rule as plain data, so there is no
+// closure to keep. gamma and the bracket stay two, as 01 names them.
 #[tactic(auto, unfolding(crate::specs::Iteration::follow_by))]
 fn follow(gamma: f64, w: Bracket, t: Trial, u: Bracket) -> Then
     ensures { result ≡ follow_of gamma w t u }

@@ -20,7 +20,7 @@ use refusals::Refusal;
 use runs::{Iterations, Outcome, Verdict};
 
 // What is due next: a trial's step, a step of U3 between h and k while so many answers may come, or the end by a
-// verdict or the limit.
+// verdict or the limit. U3's ends stay two values, as `Came` and the rules' text have them.
 #[derive(Clone, Copy)]
 pub enum Move {
     Try(Bracket, Trial),
@@ -66,7 +66,7 @@ pub(crate) fn tries(u: Bracket, rule: Rule, x: f64) -> Move
     Move::Try(u, Trial { rule, x })
 }
 
-// A move that was tested: it is asked, or the search is over.
+// A move that was tested: it is asked, or the search is over. It is no Result, since an end by a verdict is no error.
 #[derive(Clone, Copy)]
 pub enum Tested {
     Asks(Bracket, Trial),
