@@ -142,7 +142,8 @@ fn point_field(body: &[u8]) -> Result<Field, Malformed>
     }
 }
 
-// Whether a field with this tag, any number, may have a body of this size. Where it may not, the field is malformed by its head.
+// Whether a field with this tag, any number, may have a body of this size. Where it may not, the field is malformed by
+// its head.
 #[tactic(auto, using(crate::proofs::Lengths::may_have_of_none))]
 pub fn may_have(tag: u8, size: usize) -> bool
     ensures { result ≡ may_have tag size }

@@ -36,8 +36,8 @@ pub struct Scanned {
     pub checked: Result<(), answers::Refusal>,
 }
 
-// What stands in a seat that no search has taken: one that is over. The theorems on a table speak of it, and of the size,
-// so a seat is no Option.
+// What stands in a seat that no search has taken: one that is over. The theorems on a table speak of it, and of the
+// size, so a seat is no Option.
 fn idle() -> Backtracking
     ensures { result ≡ idle_search }
 {
