@@ -119,5 +119,5 @@ fn main(rt: HostRuntime) {
     let mut line = [0u8; 17];
     let mut room = &mut line[..];
     let _ = writeln!(room, "{bits:016x}");
-    streams::send(&rt, streams::nothing_sent(), &line, 17);
+    streams::nothing_sent().send(&rt, &line, 17);
 }

@@ -13,6 +13,7 @@ use case_files::{Field, Malformed};
 use input::Window;
 use searches::{Current, Told};
 use std::io::Read;
+use streams::Sent;
 use text::Cursor;
 
 // ---- a field
@@ -77,24 +78,29 @@ fn served(page: &mut Cursor, s: &[u8], progress: Progress, b: u64) -> Option<Pro
 
 // ---- the run
 
+// Writes out what is told, and begins the page anew.
+fn write_out(rt: &(impl Print + Eprint), sent: &mut Sent, page: &mut Cursor) {
+    let n = page.at;
+    sent.send(rt, page.buffer, n);
+    page.at = 0;
+}
+
 // While more may come a field is served only where it is decided. Before the program waits for more it writes out all
 // that is told, so that whoever asks over a pipe gets the answer. Each field finds room for its lines. Where a
 // write or a read failed nothing more is told: no case is closed, since none has ended. A proved loop has to end, and
 // nothing says that an input does: it counts its turns.
-fn run(rt: &(impl Print + Eprint), stdin: &mut impl Read, buf: &mut [u8], out: &mut [u8]) {
+fn run(rt: &(impl Print + Eprint), stdin: &mut impl Read, buf: &mut [u8], page: &mut Cursor) {
     let mut progress = Progress {
         current: Current::Free,
         cases: 0,
     };
-    let mut at = 0;
     let mut sent = streams::nothing_sent();
     let mut window = Window::default();
     for _ in 0..u64::MAX {
         let Window { from, to, .. } = window;
         let waits = !window.ended && !input::is_decided(&buf[from..to]);
-        if waits || 50000 <= at {
-            sent = streams::send(rt, sent, out, at);
-            at = 0;
+        if waits || 50000 <= page.at {
+            write_out(rt, &mut sent, page);
             if sent.lost {
                 return;
             }
@@ -110,24 +116,19 @@ fn run(rt: &(impl Print + Eprint), stdin: &mut impl Read, buf: &mut [u8], out: &
             break;
         }
         let b = input::place(window.base, from);
-        let mut page = Cursor { buffer: out, at };
-        let next = served(&mut page, &buf[from..to], progress, b);
-        at = page.at;
-        let Some(next) = next else {
-            streams::send(rt, sent, out, at);
+        let Some(next) = served(page, &buf[from..to], progress, b) else {
+            write_out(rt, &mut sent, page);
             return;
         };
         progress = next;
         window.from += fields::end(&buf[from..to]);
     }
-    let mut page = Cursor { buffer: out, at };
-    searches::closed(&mut page, progress.current);
-    let n = page.at;
-    streams::send(rt, sent, out, n);
+    searches::closed(page, progress.current);
+    write_out(rt, &mut sent, page);
 }
 
 fn main(rt: HostRuntime) {
     let mut buf = [0u8; 65536];
     let mut out = [0u8; 65536];
-    run(&rt, &mut rt.stdin(), &mut buf, &mut out);
+    run(&rt, &mut rt.stdin(), &mut buf, &mut Cursor::new(&mut out));
 }

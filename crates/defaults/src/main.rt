@@ -63,5 +63,5 @@ fn main(rt: HostRuntime) {
     hager_zhang(&mut page);
     backtracks(&mut page);
     let n = page.at;
-    streams::send(&rt, streams::nothing_sent(), &buffer, n);
+    streams::nothing_sent().send(&rt, &buffer, n);
 }

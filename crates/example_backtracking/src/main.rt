@@ -22,37 +22,29 @@ fn slope(x: f64) -> f64 {
 
 // ---- the search
 
-// `sent` goes from line to line: behind a write that failed nothing more is written.
-fn print_refused(rt: &(impl Print + Eprint), refusal: Refusal, sent: Sent) -> Sent {
+// A line, by the function that writes it. `sent` goes from line to line: behind a write that failed nothing more is
+// written.
+fn print<F: FnOnce(&mut Cursor)>(rt: &(impl Print + Eprint), sent: &mut Sent, write: F)
+    requires { F.IsAlwaysCallable write }
+{
     let mut buffer = [0u8; 80];
     let mut line = Cursor::new(&mut buffer);
-    lines::refused(&mut line, refusal.number());
+    write(&mut line);
     let n = line.at;
-    streams::send(rt, sent, &buffer, n)
-}
-
-// The line of what the search says, with its evaluations and iterations.
-fn print_turn(rt: &(impl Print + Eprint), t: Turn, sent: Sent) -> Sent {
-    let mut buffer = [0u8; 80];
-    let mut line = Cursor::new(&mut buffer);
-    lines::turn(&mut line, t);
-    let n = line.at;
-    streams::send(rt, sent, &buffer, n)
+    sent.send(rt, &buffer, n);
 }
 
 // The model answers each step that is asked, until the search ends. It ends by itself, long before the count does: a
 // proved loop has to have an end that the check can see.
-fn answer_all(rt: &(impl Print + Eprint), first: Turn, before: Sent) -> Sent {
+fn answer_all(rt: &(impl Print + Eprint), first: Turn, sent: &mut Sent) {
     let mut t = first;
-    let mut sent = before;
     for _ in 0..u32::MAX {
-        sent = print_turn(rt, t, sent);
+        print(rt, sent, |line| lines::turn(line, t));
         let Outcome::Ask(x) = t.outcome else {
             break;
         };
         t = t.search.answer(power(x), slope(x));
     }
-    sent
 }
 
 // The first turn of the search, or why there is none: the condition's constants are bad, or the start is.
@@ -62,10 +54,10 @@ fn started(condition: Condition) -> Result<Turn, Refusal> {
 }
 
 // A condition whose constants are in their ranges is searched with; another one is refused.
-fn try_condition(rt: &(impl Print + Eprint), condition: Condition, sent: Sent) -> Sent {
+fn try_condition(rt: &(impl Print + Eprint), condition: Condition, sent: &mut Sent) {
     match started(condition) {
         Ok(first) => answer_all(rt, first, sent),
-        Err(refusal) => print_refused(rt, refusal, sent),
+        Err(refusal) => print(rt, sent, |line| lines::refused(line, refusal.number())),
     }
 }
 
@@ -87,6 +79,6 @@ fn main(rt: HostRuntime) {
     ];
     let mut sent = streams::nothing_sent();
     for condition in conditions {
-        sent = try_condition(&rt, condition, sent);
+        try_condition(&rt, condition, &mut sent);
     }
 }

@@ -50,42 +50,36 @@ fn options() -> Options {
     }
 }
 
-// The line of what the search says, with its evaluations and finished iterations. `sent` goes from line to line: behind
-// a write that failed nothing more is written.
-fn print_turn(rt: &(impl Print + Eprint), t: Turn, sent: Sent) -> Sent {
+// A line, by the function that writes it. `sent` goes from line to line: behind a write that failed nothing more is
+// written.
+fn print<F: FnOnce(&mut Cursor)>(rt: &(impl Print + Eprint), sent: &mut Sent, write: F)
+    requires { F.IsAlwaysCallable write }
+{
     let mut buffer = [0u8; 80];
     let mut line = Cursor::new(&mut buffer);
-    lines::turn(&mut line, t);
+    write(&mut line);
     let n = line.at;
-    streams::send(rt, sent, &buffer, n)
+    sent.send(rt, &buffer, n);
 }
 
 // The model answers each step that is asked, until the search ends. It ends by itself, long before the count does: a
 // proved loop has to have an end that the check can see.
-fn answer_all(rt: &(impl Print + Eprint), p: Plant, first: Turn, before: Sent) -> Sent {
+fn answer_all(rt: &(impl Print + Eprint), p: Plant, first: Turn, sent: &mut Sent) {
     let mut t = first;
-    let mut sent = before;
     for _ in 0..u32::MAX {
-        sent = print_turn(rt, t, sent);
+        print(rt, sent, |line| lines::turn(line, t));
         let Outcome::Ask(x) = t.outcome else {
             break;
         };
         t = t.search.answer(p.power(x), p.slope(x));
     }
-    sent
 }
 
 // A start may be refused too: then there is no search, and the number says why.
-fn optimise(rt: &(impl Print + Eprint), p: Plant, sent: Sent) -> Sent {
+fn optimise(rt: &(impl Print + Eprint), p: Plant, sent: &mut Sent) {
     match hagerzhang::start(options(), p.power(0.0), p.slope(0.0)) {
         Ok(first) => answer_all(rt, p, first, sent),
-        Err(refusal) => {
-            let mut buffer = [0u8; 80];
-            let mut line = Cursor::new(&mut buffer);
-            lines::refused(&mut line, refusal.number());
-            let n = line.at;
-            streams::send(rt, sent, &buffer, n)
-        }
+        Err(refusal) => print(rt, sent, |line| lines::refused(line, refusal.number())),
     }
 }
 
@@ -99,6 +93,7 @@ fn main(rt: HostRuntime) {
         dead_above: 0.75,
         ..sound
     };
-    let sent = optimise(&rt, sound, streams::nothing_sent());
-    optimise(&rt, dead, sent);
+    let mut sent = streams::nothing_sent();
+    optimise(&rt, sound, &mut sent);
+    optimise(&rt, dead, &mut sent);
 }

@@ -9,8 +9,7 @@ use text::Cursor;
 
 // What is behind the first bytes, as it comes. All that was read was written, so both have the same count. A proved
 // loop has to end, and nothing says that an input does: so it has a number of turns.
-fn pass_on(rt: &(impl Print + Eprint), input: &mut impl Read, before: Sent) {
-    let mut sent = before;
+fn pass_on(rt: &(impl Print + Eprint), input: &mut impl Read, sent: &mut Sent) {
     let mut page = [0u8; 65536];
     for _ in 0..u64::MAX {
         if sent.lost {
@@ -19,7 +18,7 @@ fn pass_on(rt: &(impl Print + Eprint), input: &mut impl Read, before: Sent) {
         let Ok(Some(n)) = streams::receive(rt, input, &mut page, sent.bytes) else {
             return;
         };
-        sent = streams::send(rt, sent, &page, n);
+        sent.send(rt, &page, n);
     }
 }
 
@@ -29,9 +28,10 @@ fn run(rt: &(impl Print + Eprint), input: &mut impl Read, first: &[u8]) {
     let mut page = Cursor::new(&mut buffer);
     stored_jobs::with_bounds(&mut page, first);
     let n = page.at;
-    let sent = streams::send(rt, streams::nothing_sent(), &buffer, n);
+    let mut sent = streams::nothing_sent();
+    sent.send(rt, &buffer, n);
     if first.len() == 56 {
-        pass_on(rt, input, sent);
+        pass_on(rt, input, &mut sent);
     }
 }
 

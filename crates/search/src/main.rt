@@ -20,7 +20,7 @@ fn tell(rt: &(impl Print + Eprint), c: Curve, first: Turn)
         let mut page = Cursor::new(&mut buffer);
         left = play::play(c, Some(t), 512, &mut page);
         let n = page.at;
-        sent = streams::send(rt, sent, &buffer, n);
+        sent.send(rt, &buffer, n);
         if sent.lost {
             return;
         }
@@ -32,7 +32,7 @@ fn refuse(rt: &(impl Print + Eprint), refusal: Refusal) {
     let mut page = Cursor::new(&mut buffer);
     lines::refused(&mut page, refusal.number());
     let n = page.at;
-    streams::send(rt, streams::nothing_sent(), &buffer, n);
+    streams::nothing_sent().send(rt, &buffer, n);
 }
 
 fn run(rt: &(impl Print + Eprint), job: &[u8]) {

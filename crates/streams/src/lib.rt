@@ -69,24 +69,26 @@ fn write_out(rt: &impl Print, rest: &mut &[u8]) -> io::Result<()>
     Ok(())
 }
 
-// Writes the first n bytes of a page to standard output. After a write that failed nothing more is written. A page that
-// has fewer is a loss too, by `Sends`, so n stands beside the page.
-pub fn send(rt: &(impl Print + Eprint), sent: Sent, page: &[u8], n: usize) -> Sent
-    ensures { Sends sent n result }
-{
-    if sent.lost {
-        return sent;
+impl Sent {
+    // Writes the first n bytes of a page to standard output. After a write that failed nothing more is written. A page
+    // that has fewer is a loss too, by `Sends`, so n stands beside the page.
+    pub fn send(&mut self, rt: &(impl Print + Eprint), page: &[u8], n: usize)
+        ensures { Sends self.old n self.new }
+    {
+        if self.lost {
+            return;
+        }
+        let there = n.min(page.len());
+        let mut rest = &page[..there];
+        let error = write_out(rt, &mut rest).err();
+        let done = there - rest.len();
+        let bytes = self.bytes.saturating_add(done as u64);
+        let lost = done < n;
+        if lost {
+            say_lost(rt, "standard output", bytes, error);
+        }
+        *self = Sent { bytes, lost };
     }
-    let there = n.min(page.len());
-    let mut rest = &page[..there];
-    let error = write_out(rt, &mut rest).err();
-    let done = there - rest.len();
-    let bytes = sent.bytes.saturating_add(done as u64);
-    let lost = done < n;
-    if lost {
-        say_lost(rt, "standard output", bytes, error);
-    }
-    Sent { bytes, lost }
 }
 
 // ---- standard input
