@@ -14,9 +14,10 @@ ghost use Rattle.jobs.specs.Opening.{over_curve, begun_by, BeginSaid};
 ghost use Rattle.jobs.specs.Reader.{found, behind, ReadSaid};
 
 use curves::Curve;
+pub use fields::Malformed;
 use hagerzhang::Turn;
 use hagerzhang_rules::{Bounds, Options, Params, Way};
-pub use refusal::{Malformed, Refusal};
+pub use refusal::Refusal;
 
 mod refusal; // why a job begins no search
 
