@@ -13,7 +13,7 @@ use Rattle.floats.proofs.Branches.{by_cases, by-cases₂}
 use Rattle.std.specs.Prelude.{Option, Some, None, Result, Ok, IfOk, ◌≢◌}
 use Rattle.fields.specs.declared.Heading.{Heading}
 use Rattle.fields.specs.Fields.{head_of, body_of}
-use Rattle.case_files.specs.declared.Malformed.{Malformed}
+use Rattle.fields.specs.declared.Malformed.{Malformed}
 use Rattle.case_files.specs.declared.Tag.{Tag}
 use Rattle.case_files.specs.declared.Tag.TheVariants as kind
 use Rattle.case_files.specs.declared.Field.{Field}

@@ -4,8 +4,8 @@ use Rattle.std.specs.Prelude.{ℕ, ◌≡◌, ◌≢◌, ◌+◌, ◌*◌, ◌�
 use Rattle.std.specs.Prelude.{Option, Some, None, Result, Ok, Err, MatchResult}
 use Rattle.wire.specs.Wire.{byte_at, pair_of}
 use Rattle.fields.specs.declared.Heading.{Heading}
+use Rattle.fields.specs.declared.Malformed.{Malformed}
 use Rattle.fields.specs.Fields.{head_of, body_of}
-use Rattle.case_files.specs.declared.Malformed.{Malformed}
 use Rattle.case_files.specs.declared.Tag.{Tag}
 use Rattle.case_files.specs.declared.Tag.TheVariants as tag
 use Rattle.case_files.specs.declared.Field.{Field}

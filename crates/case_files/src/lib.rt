@@ -7,6 +7,9 @@ ghost use Rattle.wire.specs.Wire.{byte_at, pair_of};
 ghost use Rattle.case_files.specs.CaseFiles.{is_way, is_condition, length_at, dot_field, point_field};
 ghost use Rattle.case_files.specs.CaseFiles.{code_of, Decodes, tagged_field, may_have, read_of, Short};
 
+// What is no field here: the tag is unknown, the body is not as the tag wants it, or the end of the input cuts it.
+pub use fields::Malformed;
+
 // A field by its kind, with the lengths that its body names.
 #[derive(Clone, Copy)]
 pub enum Field {
@@ -23,10 +26,6 @@ pub enum Field {
     // tag 35: of x0, d and out with so many elements
     Point(usize, usize, usize),
 }
-
-// What is no field: the tag is unknown, the body is not as the tag wants it, or the end of the input cuts it.
-#[derive(Clone, Copy)]
-pub struct Malformed;
 
 // The kind of a field, by its tag alone.
 #[derive(Clone, Copy)]

@@ -40,7 +40,7 @@ fn refused_at(page: &mut Cursor, n: u32, i: usize)
     ensures { Writes page.old (refused_at_line n i) page.new }
 {
     page.word(b"REFUSED ");
-    page.decimal(n as u64);
+    page.decimal(u64::from(n));
     page.number_line(b" at ", i as u64);
 }
 

@@ -35,7 +35,7 @@ use Rattle.hagerzhang_rules.specs.Iterations.{standing, had, AskedBecause, Ended
 use Rattle.fields.specs.Fields.{Field}
 use Rattle.jobs.specs.declared.Job.{Job}
 use Rattle.jobs.specs.Format.{WellFormed, means_of}
-use Rattle.jobs.specs.declared.refusal.Malformed.{Malformed}
+use Rattle.fields.specs.declared.Malformed.{Malformed}
 use Rattle.jobs.specs.Reader.{read_told, ReadSaid}
 use Rattle.jobs.specs.Opening.{Opened, job_rows, opened_told, BeginSaid}
 use Rattle.hagerzhang.specs.Machine.{Turn, Started}

@@ -6,6 +6,10 @@
 ghost use Rattle.std.specs.Prelude.{◌≡◌, ◌+◌, ◌≤◌, IfSome, length};
 ghost use Rattle.fields.specs.Fields.{head_of, body_of, end_of};
 
+// The bytes are no field, or none that may stand there.
+#[derive(Clone, Copy, Debug, PartialEq, Eq)]
+pub struct Malformed;
+
 // What the head of a whole field says: its tag, and the length of its body.
 #[derive(Clone, Copy)]
 pub struct Heading {

@@ -26,7 +26,7 @@ use Rattle.hagerzhang.specs.Machine.{Turn}
 use Rattle.jobs.specs.declared.Job.{Job}
 use Rattle.std.specs.Prelude.{Ok, Err}
 use Rattle.std.specs.Prelude as Rust
-use Rattle.jobs.specs.declared.refusal.Malformed.{Malformed}
+use Rattle.fields.specs.declared.Malformed.{Malformed}
 use Rattle.jobs.specs.declared.refusal.Refusal as Jobs
 use Rattle.jobs.specs.declared.refusal.Refusal.TheVariants.{Malformed as NoJob, NoSearch}
 use Rattle.jobs.specs.Reader.{read_told, ReadSaid}

@@ -8,7 +8,7 @@ use Rattle.hagerzhang_rules.specs.Parameters.{default_options}
 use Rattle.fields.specs.declared.Heading.{Heading}
 use Rattle.fields.specs.Fields.{head_of, body_of, end_of}
 use Rattle.jobs.specs.declared.Job.{Job}
-use Rattle.jobs.specs.declared.refusal.Malformed.{Malformed}
+use Rattle.fields.specs.declared.Malformed.{Malformed}
 use Rattle.jobs.specs.Format.{options_of, decoded}
 
 -- the bytes begin with a field of this tag, whose body has n bytes

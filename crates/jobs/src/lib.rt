@@ -15,9 +15,10 @@ ghost use Rattle.jobs.specs.Reader.{found, behind, ReadSaid};
 ghost use Rattle.jobs.specs.Tags.{tag_of, length_of};
 
 use curves::Curve;
+pub use fields::Malformed;
 use hagerzhang::Turn;
 use hagerzhang_rules::{Bounds, Options, Params, Way};
-pub use refusal::{Malformed, Refusal};
+pub use refusal::Refusal;
 
 mod refusal; // why a job begins no search
 

@@ -23,15 +23,15 @@ fn counts(page: &mut Cursor, c: Counts)
     ensures { Writes page.old (counts_of c) page.new }
 {
     page.word(b" evaluations ");
-    page.decimal(c.evaluations.0 as u64);
-    page.number_line(b" iterations ", c.iterations.0 as u64);
+    page.decimal(u64::from(c.evaluations.0));
+    page.number_line(b" iterations ", u64::from(c.iterations.0));
 }
 
 // `REFUSED n`
 pub fn refused(page: &mut Cursor, n: u32)
     ensures { Writes page.old (refused_line n) page.new }
 {
-    page.number_line(b"REFUSED ", n as u64);
+    page.number_line(b"REFUSED ", u64::from(n));
 }
 
 // `STOP word`, the beginning of a stop's line. It is no Display, which would not say what a full buffer holds.

@@ -23,6 +23,7 @@ pub fn from(s: &[u8], at: usize) -> &[u8]
 }
 
 // The number in the first two bytes.
+// No plainer: one fn makes the array for pair, quad and word. Its promise for N bytes wants a proof file of its own.
 pub fn pair(s: &[u8]) -> usize
     ensures value { result ≡ pair_of s.now }
     ensures upper_bound { result < 65536 }

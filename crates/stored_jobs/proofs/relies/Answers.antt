@@ -1,12 +1,11 @@
 -- `stored_jobs::relies` meets its contract. Assumes nothing.
 use mathlib.Core.Path.{◌≡◌, sym, ap, ◌∙◌}
-use mathlib.Core.Bool.{Bool}
 use mathlib.Core.List.{List}
 use Prim.Native.Nat.{ℕ}
 use Rattle.std.specs.Prelude.{Ok, Err, is_ok}
 use Rattle.std.specs.Prelude as Rust
 use Rattle.jobs.specs.declared.Job.{Job}
-use Rattle.jobs.specs.declared.refusal.Malformed.{Malformed}
+use Rattle.fields.specs.declared.Malformed.{Malformed}
 use Rattle.jobs.specs.Reader.{job_of, ReadSaid}
 use Rattle.stored_jobs.specs.OldBounds.{is_job}
 use Rattle.stored_jobs.specs.Kept.{relies}
