@@ -20,8 +20,7 @@ use Rattle.answers.specs.Many.{under, given_all}
 use Rattle.answers.specs.Answers.{answers_in, size_of, list_rows}
 use Rattle.answers.proofs.Many.{given-part, reached-alone, told-alone}
 use Rattle.seats.specs.declared.Held.{Held}
-use Rattle.seats.specs.declared.Seat.{Seat}
-use Rattle.seats.specs.Seats.{seat_of, answered_by, answered_of}
+use Rattle.seats.specs.Seats.{Seat, seat_of, answered_by, answered_of}
 use Rattle.seats.specs.Seats as seats
 use Rattle.tables.specs.declared.Table.{Table}
 use Rattle.tables.specs.declared.Seated.{Seated}
@@ -77,23 +76,23 @@ shows-last s (y ∷ ys) = shows-last (answered_of s y.0 y.1) ys
 
 module _ {S : Type 0} (kind : Machine S) (held : S → Held) (is : Kind kind held) where
   -- one answer
-  leaves-seat : (z : Seat) (s : S) (f g : Float) → z.held ≡ held s
-      → (answered_of z f g).held ≡ held (kind.next s f g)
-  leaves-seat z s f g e = ap (λ (h : Held). (answered_by h f g).held) e ∙ is.leaves s z.outcome f g
+  leaves-seat : (z : Seat) (s : S) (f g : Float) → z.search ≡ held s
+      → (answered_of z f g).search ≡ held (kind.next s f g)
+  leaves-seat z s f g e = ap (λ (h : Held). (answered_by h f g).search) e ∙ is.leaves s z.outcome f g
 
-  tells-seat : (z : Seat) (s : S) (f g : Float) → z.held ≡ held s
+  tells-seat : (z : Seat) (s : S) (f g : Float) → z.search ≡ held s
       → told (answered_of z f g).outcome ≡ kind.says s f g
   tells-seat z s f g e = ap (λ (h : Held). told (answered_by h f g).outcome) e ∙ is.says s z.outcome f g
 
   -- any
-  holds-seat : (z : Seat) (s : S) (ys : List Reply) → z.held ≡ held s
-      → (reached seats.machine z ys).held ≡ held (reached kind s ys)
+  holds-seat : (z : Seat) (s : S) (ys : List Reply) → z.search ≡ held s
+      → (reached seats.machine z ys).search ≡ held (reached kind s ys)
   unfolding reached
   holds-seat z s [] e = e
   holds-seat z s (y ∷ ys) e =
       holds-seat (answered_of z y.0 y.1) (kind.next s y.0 y.1) ys (leaves-seat z s y.0 y.1 e)
 
-  plays-seat : (z : Seat) (s : S) (ys : List Reply) → z.held ≡ held s → played seats.machine z ys ≡ played kind s ys
+  plays-seat : (z : Seat) (s : S) (ys : List Reply) → z.search ≡ held s → played seats.machine z ys ≡ played kind s ys
   unfolding played
   plays-seat z s [] e = refl
   plays-seat z s (y ∷ ys) e =

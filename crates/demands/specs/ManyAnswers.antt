@@ -23,8 +23,7 @@ use Rattle.answers.specs.Answers.{search_number, search_named, answers_in, size_
 use Rattle.answers.specs.Answers.{checked_told, CheckedSaid}
 use Rattle.seats.specs.declared.Held.{Held}
 use Rattle.seats.specs.declared.Held.TheVariants.{HagerZhang, Backtracks}
-use Rattle.seats.specs.declared.Seat.{Seat}
-use Rattle.seats.specs.Seats.{seat_of, answered_of, is_over, hager_zhang_seat, backtracking_seat}
+use Rattle.seats.specs.Seats.{Seat, seat_of, answered_of, is_over, hager_zhang_seat, backtracking_seat}
 use Rattle.seats.specs.Seats as seats
 use Rattle.tables.specs.declared.Table.{Table}
 use Rattle.tables.specs.declared.Scanned.{Scanned}
@@ -61,7 +60,7 @@ last_told o (p ∷ os) = last_told p os
 -- a kind of search: a seat that holds its state s goes and tells as s does
 pub record Kind {S : Type 0} (kind : Machine S) (held : S → Held) : Type 0 where
   pub leaves : (s : S) (o : Outcome) (f g : Float)
-      → (answered_of (seat_of (held s) o) f g).held ≡ held (kind.next s f g)
+      → (answered_of (seat_of (held s) o) f g).search ≡ held (kind.next s f g)
   pub says : (s : S) (o : Outcome) (f g : Float)
       → told (answered_of (seat_of (held s) o) f g).outcome ≡ kind.says s f g
   pub over : (s : S) → is_over (held s) ≡ kind.over s
@@ -71,7 +70,7 @@ pub record Sits {S : Type 0} (kind : Machine S) (held : S → Held) (s : S) (o :
     (t : Table) (i : ℕ) : Type 0 where
   pub seat : Seat
   pub found : get_elem? (searches_in t) i ≡ some seat
-  pub holds : seat.held ≡ held (reached kind s ys)
+  pub holds : seat.search ≡ held (reached kind s ys)
   pub plays : os ≡ played kind s ys
   pub tells : told seat.outcome ≡ last_told o os
 
@@ -183,10 +182,10 @@ pub record ManyAnswers : Type 1 where
   pub each-told : (t u : Table) (xs : List Float) → length t.seats ≡ 32 → scan_of t xs ≡ value u
       → map (λ x. x.0) (outcomes_in t xs) ≡ map (λ x. x.0) (answers_in xs)
   -- "A search that has ended is still in the table and its answers meet refusal 8." What is told to be an end ends it
-  pub over-stays : (s : Seat) (f g : Float) → is_over s.held ≡ true
-      → ((answered_of s f g).held ≡ s.held) × ((answered_of s f g).outcome ≡ RefusedOutcome AlreadyOver)
+  pub over-stays : (s : Seat) (f g : Float) → is_over s.search ≡ true
+      → ((answered_of s f g).search ≡ s.search) × ((answered_of s f g).outcome ≡ RefusedOutcome AlreadyOver)
   pub ends_it : (s : Seat) (f g : Float) (e : Ending ℕ) → told (answered_of s f g).outcome ≡ ends e
-      → is_over (answered_of s f g).held ≡ true
+      → is_over (answered_of s f g).search ≡ true
   -- ---- a seat
 
   pub seated-at : (t : Table) (s : Seat) → t.size < 32 → (seated_of t s).place ≡ Some t.size

@@ -3,11 +3,12 @@
 #![tactic(auto)]
 
 ghost use Rattle.std.specs.Prelude.{◌≡◌};
-ghost use Rattle.seats.specs.Seats.{seat_of, hager_zhang_seat, backtracking_seat, answered_of};
+ghost use Rattle.seats.specs.Seats.{seat_of, hager_zhang_seat, backtracking_seat, answered_by, counted_of, is_over};
+ghost use Rattle.seats.specs.Over.{stays};
 
 use backtracking::Backtracking;
 use hagerzhang::Search;
-use runs::{Machine, Outcome};
+use runs::{Counts, Machine, Outcome};
 
 #[derive(Clone, Copy)]
 pub enum Held {
@@ -15,17 +16,16 @@ pub enum Held {
     Backtracks(Backtracking),
 }
 
-#[derive(Clone, Copy)]
-pub struct Seat {
-    pub held: Held,
-    // what it last told
-    pub outcome: Outcome,
-}
+// The search, and what it last told.
+pub type Seat = runs::Turn<Held>;
 
 fn seated(held: Held, outcome: Outcome) -> Seat
     ensures { result ≡ seat_of held outcome }
 {
-    Seat { held, outcome }
+    Seat {
+        search: held,
+        outcome,
+    }
 }
 
 // The search that a start or an answer gave, with what it told. One function for either kind would want a `From` for
@@ -42,12 +42,28 @@ pub fn backtracks(turn: backtracking::Turn) -> Seat
     seated(Held::Backtracks(turn.search), turn.outcome)
 }
 
-// One answer, cost f and slope g, to the search in the seat: what `answer` of its kind gives.
-pub fn answered(s: Seat, f: f64, g: f64) -> Seat
-    ensures { result ≡ answered_of s f g }
-{
-    match s.held {
-        Held::HagerZhang(search) => hager_zhang(search.answer(f, g)),
-        Held::Backtracks(search) => backtracks(search.answer(f, g)),
+// One answer is what `answer` of its kind gives, and it has counted what its kind counts.
+impl Machine for Held {
+    ghost turn = { answered_by };
+
+    ghost counted = { counted_of };
+
+    ghost over = { is_over };
+
+    ghost stays = { stays };
+
+    #[tactic(auto, unfolding(crate::specs::Seats::answered_by))]
+    fn answer(self, f: f64, g: f64) -> Seat {
+        match self {
+            Held::HagerZhang(search) => hager_zhang(search.answer(f, g)),
+            Held::Backtracks(search) => backtracks(search.answer(f, g)),
+        }
+    }
+
+    fn counts(self) -> Counts {
+        match self {
+            Held::HagerZhang(search) => search.counts(),
+            Held::Backtracks(search) => search.counts(),
+        }
     }
 }

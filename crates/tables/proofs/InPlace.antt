@@ -6,8 +6,7 @@ use lib.Ieee.{Float, nan}
 use Rattle.answers.specs.Answers.{search_named, search_number}
 use Rattle.answers.proofs.Lists.{answer_of, changed-set, changed-beyond}
 use Rattle.answers.proofs.Numbers.{named-some, named-none}
-use Rattle.seats.specs.declared.Seat.{Seat}
-use Rattle.seats.specs.Seats.{answered_of, machine}
+use Rattle.seats.specs.Seats.{Seat, answered_of, machine}
 use Rattle.tables.specs.declared.Table.{Table}
 use Rattle.tables.specs.Tables.{given_to}
 

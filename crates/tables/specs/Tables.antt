@@ -13,9 +13,8 @@ use Rattle.backtracking.specs.declared.Stage.TheVariants.{Over}
 use Rattle.answers.specs.Many.{Answer, given_all}
 use Rattle.answers.specs.declared.Refusal.{Refusal}
 use Rattle.answers.specs.Answers.{answers_in, size_of, list_rows, refusal_number}
-use Rattle.seats.specs.declared.Seat.{Seat}
 use Rattle.seats.specs.declared.Held.TheVariants.{Backtracks}
-use Rattle.seats.specs.Seats.{seat_of, machine}
+use Rattle.seats.specs.Seats.{Seat, seat_of, machine}
 use Rattle.tables.specs.declared.Table.{Table}
 use Rattle.tables.specs.declared.Seated.{Seated}
 use Rattle.tables.specs.declared.Scanned.{Scanned}

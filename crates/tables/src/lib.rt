@@ -9,7 +9,7 @@ ghost use Rattle.tables.specs.Tables.{idle_search, vacant_seat, empty_table, sea
 use backtracking::{Backtracking, Options, Setup, Stage};
 use conditions::Condition;
 use refusals::Refusal;
-use runs::{Evaluations, Iterations, Outcome};
+use runs::{Evaluations, Iterations, Machine, Outcome};
 use seats::{Held, Seat};
 
 // An array with a size beside it: memory is fixed here, and the theorems of ManyAnswers read both, also of a table that
@@ -62,7 +62,7 @@ fn vacant() -> Seat
     ensures { result ≡ vacant_seat }
 {
     Seat {
-        held: Held::Backtracks(idle()),
+        search: Held::Backtracks(idle()),
         outcome: Outcome::Refused(Refusal::AlreadyOver),
     }
 }
@@ -108,7 +108,7 @@ fn given(t: Table, list: &[f64]) -> Table
     for &[number, cost, slope] in list.as_chunks::<3>().0 {
         if let Some(n) = answers::number(number) {
             let seat = &mut table.seats[n as usize];
-            *seat = seats::answered(*seat, cost, slope);
+            *seat = seat.search.answer(cost, slope);
         }
     }
     table

@@ -20,7 +20,7 @@ loop-number-preserved c =
         rw w.table-is (length-set l.table.seats n _ ∙ l.invariant.0),
         turn ∙ ap (λ u. given_to u rest)
             (one-given l.table a l.invariant.0 n _ (sym c.number.ensures ∙ w.in-Some.is)
-            ∙ ap (with_seat l.table n) (sym w.answered.ensures) ∙ sym w.table-is),
+            ∙ ap (with_seat l.table n) (sym w.answer.ensures) ∙ sym w.table-is),
       )
       | in_default w ↦ (
         rw w.table-is l.invariant.0,
