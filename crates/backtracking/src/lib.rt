@@ -43,7 +43,7 @@ pub enum Stage {
     Over,
 }
 
-// There is no bracket and no best in it.
+// There is no bracket and no best in it. The two counts are no `Counts`: they are counted one at a time.
 #[derive(Clone, Copy)]
 pub struct Backtracking {
     pub setup: Setup,

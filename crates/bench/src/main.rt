@@ -67,7 +67,8 @@ fn search_on(c: Curve) -> Search {
     }
 }
 
-// One search on the curve n: its state stays in locals, and `answer` is called at one place.
+// One search on the curve n: its state stays in locals, and `answer` is called at one place. That is for speed: a loop
+// over all curves took 1.3 to 1.5 s where this takes 0.7 to 0.8. Of a refusal, which does not come, 1.0 is as good.
 fn play(n: u32, from: Tally) -> Tally {
     let c = curve_of(n);
     let mut s = search_on(c);

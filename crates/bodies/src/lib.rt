@@ -9,7 +9,8 @@ ghost use Rattle.bodies.specs.Bodies.{way_of, limit_of, whole_of, condition_of, 
 use conditions::Condition;
 use hagerzhang_rules::{Bounds, Params, Way};
 
-// A start: its options, and cost and slope at step 0.
+// A start: its options, and cost and slope at step 0. It is what the bytes say; a search's `Setup` is what its start
+// has accepted. The starts take the three one by one, as whoever measures has them.
 #[derive(Clone, Copy)]
 pub struct Start<O> {
     pub options: O,
@@ -28,7 +29,7 @@ pub struct Reply {
     pub slope: f64,
 }
 
-// The float from a place on.
+// The float from a place on. The places are those of docs/FORMATS.md, so they stand as numbers wherever a body is read.
 fn float(body: &[u8], at: usize) -> f64
     ensures { result ≡ float_at body.now at }
 {

@@ -10,7 +10,8 @@ ghost use Rattle.case_files.specs.CaseFiles.{code_of, Decodes, tagged_field, may
 // What is no field here: the tag is unknown, the body is not as the tag wants it, or the end of the input cuts it.
 pub use fields::Malformed;
 
-// A field by its kind, with the lengths that its body names.
+// A field by its kind, with the lengths that its body names. The vectors stay in the body, as bytes: they are floats
+// once they are read.
 #[derive(Clone, Copy)]
 pub enum Field {
     // tag 16: a whole Hager-Zhang start
@@ -142,7 +143,7 @@ fn point_field(body: &[u8]) -> Result<Field, Malformed>
 }
 
 // Whether a field with this tag, any number, may have a body of this size. Where it may not, the field is malformed by
-// its head.
+// its head. It is no `Tag`, since `may_have` and the theorems on the window speak of any number.
 #[tactic(auto, using(crate::proofs::Lengths::may_have_of_none))]
 pub fn may_have(tag: u8, size: usize) -> bool
     ensures { result ≡ may_have tag size }
@@ -150,7 +151,8 @@ pub fn may_have(tag: u8, size: usize) -> bool
     Tag::try_from(tag).is_ok_and(|tag| tag.may_have(size))
 }
 
-// The field with which s begins; `searching` says whether answers may come.
+// The field with which s begins; `searching` says whether answers may come. `Short` is a clause here and no fact of
+// `Field`, which would want its proof wherever specs/ makes a field.
 #[tactic(auto, using(crate::proofs::Lengths::tagged_field_of_none, crate::proofs::Lengths::field_short))]
 pub fn read(s: &[u8], searching: bool) -> Result<Field, Malformed>
     ensures value { result ≡ read_of s.now searching }

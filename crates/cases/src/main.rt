@@ -89,16 +89,14 @@ fn write_out(rt: &(impl Print + Eprint), sent: &mut Sent, page: &mut Cursor) {
 // that is told, so that whoever asks over a pipe gets the answer. Each field finds room for its lines. Where a
 // write or a read failed nothing more is told: no case is closed, since none has ended. A proved loop has to end, and
 // nothing says that an input does: it counts its turns.
-fn run(rt: &(impl Print + Eprint), stdin: &mut impl Read, buf: &mut [u8], page: &mut Cursor) {
+fn run(rt: &(impl Print + Eprint), input: &mut impl Read, window: &mut Window, page: &mut Cursor) {
     let mut progress = Progress {
         current: Current::Free,
         cases: 0,
     };
     let mut sent = streams::nothing_sent();
-    let mut window = Window::default();
     for _ in 0..u64::MAX {
-        let Window { from, to, .. } = window;
-        let waits = !window.ended && !input::is_decided(&buf[from..to]);
+        let waits = window.waits();
         if waits || 50000 <= page.at {
             write_out(rt, &mut sent, page);
             if sent.lost {
@@ -106,29 +104,32 @@ fn run(rt: &(impl Print + Eprint), stdin: &mut impl Read, buf: &mut [u8], page: 
             }
         }
         if waits {
-            let Some(refilled) = input::refilled(rt, stdin, buf, window) else {
+            if window.refill(rt, input).is_err() {
                 return;
-            };
-            window = refilled;
+            }
             continue;
         }
-        if from == to {
+        if window.part().is_empty() {
             break;
         }
-        let b = input::place(window.base, from);
-        let Some(next) = served(page, &buf[from..to], progress, b) else {
+        let Some(next) = served(page, window.part(), progress, window.begins()) else {
             write_out(rt, &mut sent, page);
             return;
         };
         progress = next;
-        window.from += fields::end(&buf[from..to]);
+        window.pass();
     }
     searches::closed(page, progress.current);
     write_out(rt, &mut sent, page);
 }
 
 fn main(rt: HostRuntime) {
-    let mut buf = [0u8; 65536];
+    let mut buffer = [0u8; 65536];
     let mut out = [0u8; 65536];
-    run(&rt, &mut rt.stdin(), &mut buf, &mut Cursor::new(&mut out));
+    run(
+        &rt,
+        &mut rt.stdin(),
+        &mut Window::new(&mut buffer),
+        &mut Cursor::new(&mut out),
+    );
 }

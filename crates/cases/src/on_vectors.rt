@@ -23,10 +23,9 @@ pub(crate) fn dot(page: &mut Cursor, body: &[u8], n: usize, m: usize)
 pub(crate) fn point(page: &mut Cursor, body: &[u8], n: usize, m: usize, k: usize)
     requires { (n ≤ 511) × (m ≤ 511) × (k ≤ 511) }
 {
-    let infinity = numbers::float_of(0x7ff0_0000_0000_0000);
     let mut x0 = [0.0; 511];
     let mut d = [0.0; 511];
-    let mut buffer = [infinity; 511];
+    let mut buffer = [f64::INFINITY; 511];
     let x0 = &mut x0[..n];
     let d = &mut d[..m];
     let buffer = &mut buffer[..k];

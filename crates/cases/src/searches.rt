@@ -7,6 +7,7 @@ use refusals::Refusal;
 use runs::{Counts, Evaluations, Iterations, Machine, Outcome, Turn};
 use text::Cursor;
 
+// It holds no `seats::Held`: the lines that close a case differ by kind, so both would be matched on all the same.
 #[derive(Clone, Copy)]
 pub(crate) enum Current {
     // before the first case, and after a dot or a point: there is none, and no answer may come

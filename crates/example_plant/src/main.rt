@@ -51,7 +51,7 @@ fn options() -> Options {
 }
 
 // A line, by the function that writes it. `sent` goes from line to line: behind a write that failed nothing more is
-// written.
+// written. This and `answer_all` stand in both examples, since each is a whole program that is read alone.
 fn print<F: FnOnce(&mut Cursor)>(rt: &(impl Print + Eprint), sent: &mut Sent, write: F)
     requires { F.IsAlwaysCallable write }
 {

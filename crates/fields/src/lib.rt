@@ -30,7 +30,8 @@ pub fn head(s: &[u8]) -> Option<Heading>
     })
 }
 
-// The body of the field with which s begins, a part of s; nothing where it is cut.
+// The body of the field with which s begins, a part of s; nothing where it is cut. It is no Option, since `body_of`
+// gives any bytes a body.
 pub fn body(s: &[u8]) -> &[u8]
     ensures { result.now ≡ body_of s.now }
 {
@@ -40,7 +41,7 @@ pub fn body(s: &[u8]) -> &[u8]
     &s[3..3 + heading.size]
 }
 
-// The place behind the field with which s begins; the end of s where it is cut.
+// The place behind the field with which s begins; the end of s where it is cut, which `end_of` says too.
 pub fn end(s: &[u8]) -> usize
     ensures value { result ≡ end_of s.now }
     ensures upper_bound { result ≤ length s.now }

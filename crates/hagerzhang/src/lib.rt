@@ -110,7 +110,8 @@ impl Machine for Search {
     }
 }
 
-// An answer to a search that is not over. Every finite answer counts, those of a refused iteration too.
+// An answer to a search that is not over. Every finite answer counts, those of a refused iteration too. It is no
+// method: `turned`, which a start calls too, makes the search of its parts.
 #[tactic(auto, unfolding(crate::specs::Machine::taken_of))]
 fn taken(s: Setup, n: Evaluations, waiting: Waiting, f: f64, g: f64) -> Turn
     ensures { result ≡ taken_of s n waiting f g }

@@ -155,7 +155,8 @@ fn begun_by(j: Job) -> Result<(Curve, Turn), refusals::Refusal>
     over_curve(c, j.options)
 }
 
-// The curve and the search of a job, which has asked its first step, for any bytes; or why there is none.
+// The curve and the search of a job, which has asked its first step, for any bytes; or why there is none. They stay
+// two: the curve is what answers, and any other may answer the same search.
 pub fn begin(job: &[u8]) -> Result<(Curve, Turn), Refusal>
     ensures { BeginSaid job.now result }
 {

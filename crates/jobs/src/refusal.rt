@@ -15,7 +15,7 @@ pub enum Refusal {
 impl Refusal {
     ghost use Rattle.jobs.specs.Opening.{refusal_number};
 
-    // The number by which 01 knows the refusal.
+    // The number by which 01 knows the refusal. A case carries a search's, so it is no cast.
     pub fn number(self) -> u32
         ensures { result ≡ refusal_number self }
     {

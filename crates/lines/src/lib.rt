@@ -7,13 +7,12 @@
 ghost use Rattle.std.specs.Prelude.{◌++◌};
 ghost use Rattle.runs.specs.Outcomes.{verdict_word, told};
 ghost use Rattle.text.specs.Text.{Writes, bytes};
-ghost use Rattle.hagerzhang_steps.specs.Reports.{last_of};
 ghost use Rattle.hagerzhang.specs.Meaning.{report};
 ghost use Rattle.lines.specs.Lines.{verdict_text, counts_of, stop_line, limit_line, refused_line, outcome_line};
-ghost use Rattle.lines.specs.Closing.{no_bracket_text, closing_text};
+ghost use Rattle.lines.specs.Closing.{no_bracket_text, points_text, closing_text};
 
 use hagerzhang::{Finished, Search};
-use runs::{Counts, Evaluations, Iterations, Machine, Outcome, Turn, Verdict};
+use runs::{Counts, Machine, Outcome, Turn, Verdict};
 use text::Cursor;
 
 // ---- an outcome: ASK, STOP, LIMIT or REFUSED
@@ -94,38 +93,25 @@ pub fn no_bracket(page: &mut Cursor, c: Counts)
     counts(page, c);
 }
 
-// Of a Hager-Zhang search whose last finished iteration, or start, left f.
-fn finished(page: &mut Cursor, f: Finished, evaluations: Evaluations)
-    ensures { Writes page.old (closing_text (last_of f) evaluations.0) page.new }
+// `BRACKET` and `BEST`, of the last finished iteration, or of the start.
+fn points(page: &mut Cursor, f: Finished)
+    ensures { Writes page.old (points_text f.bracket f.best) page.new }
 {
     let a = f.bracket.a;
     let b = f.bracket.b;
     page.floats_line(b"BRACKET", &[a.x, a.f, a.g, b.x, b.f, b.g]);
     let best = f.best;
     page.floats_line(b"BEST", &[best.x, best.f, best.g]);
-    page.word(b"COUNTS");
-    counts(
-        page,
-        Counts {
-            evaluations,
-            iterations: f.iterations,
-        },
-    );
 }
 
 // Of a Hager-Zhang search as it stands.
 pub fn closing(page: &mut Cursor, s: Search)
     ensures { Writes page.old (closing_text (report s) s.evaluations.0) page.new }
 {
-    let evaluations = s.evaluations;
-    match s.held() {
-        Some(f) => finished(page, f, evaluations),
-        None => no_bracket(
-            page,
-            Counts {
-                evaluations,
-                iterations: Iterations(0),
-            },
-        ),
-    }
+    let Some(f) = s.held() else {
+        return no_bracket(page, s.counts());
+    };
+    points(page, f);
+    page.word(b"COUNTS");
+    counts(page, s.counts());
 }

@@ -69,6 +69,7 @@ fn write_out(rt: &impl Print, rest: &mut &[u8]) -> io::Result<()>
     Ok(())
 }
 
+// `rt` goes beside it: a struct of both would have to name the runtime's type wherever it goes.
 impl Sent {
     // Writes the first n bytes of a page to standard output. After a write that failed nothing more is written. A page
     // that has fewer is a loss too, by `Sends`, so n stands beside the page.

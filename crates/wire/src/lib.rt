@@ -1,5 +1,5 @@
-// Numbers in bytes, most significant byte first, floats as their 64 bits. Any bytes have a reading: those past the end
-// are 0.
+// Numbers in bytes, most significant byte first, floats as their 64 bits. Any bytes have a reading, by `byte_at`: those
+// past the end are 0. So nothing here gives an Option.
 
 #![tactic(auto)]
 
