@@ -20,7 +20,7 @@ pub(crate) struct Window<'a> {
 
 // Whether the field with which s begins is decided: it is whole, or malformed by its head, whatever follows. The head
 // is read here, since `fields::head` gives none where the end cuts the body.
-pub(crate) fn is_decided(s: &[u8]) -> bool {
+fn is_decided(s: &[u8]) -> bool {
     s.split_first_chunk::<3>().is_some_and(|(head, rest)| {
         let size = wire::pair(&head[1..]);
         !case_files::may_have(head[0], size) || size <= rest.len()
@@ -28,7 +28,7 @@ pub(crate) fn is_decided(s: &[u8]) -> bool {
 }
 
 // The byte of the input at a place of the buffer, which begins with byte b. No input is so long that it comes to 2^63.
-pub(crate) fn place(b: u64, p: usize) -> u64 {
+fn place(b: u64, p: usize) -> u64 {
     if b < 1 << 63 {
         b.saturating_add(p as u64)
     } else {
