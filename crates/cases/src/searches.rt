@@ -25,7 +25,8 @@ impl Current {
     }
 }
 
-// What a start or an answer comes to, with the counts that its line shows.
+// What a start or an answer comes to, with the counts that its line shows. It is no `Turn`: where a start was refused
+// there is no search that has counted.
 #[derive(Clone, Copy)]
 pub(crate) struct Told {
     pub(crate) current: Current,
