@@ -88,15 +88,15 @@ pub fn add(t: Table, s: Seat) -> Seated
         let mut table = t;
         table.seats[n as usize] = s;
         table.size = n + 1;
-        Seated {
+        // it leaves here: as the value of the `if` the ten kilobytes would be copied once more
+        return Seated {
             table,
             place: Some(n),
-        }
-    } else {
-        Seated {
-            table: t,
-            place: None,
-        }
+        };
+    }
+    Seated {
+        table: t,
+        place: None,
     }
 }
 

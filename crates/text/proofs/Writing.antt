@@ -1,7 +1,7 @@
 -- What is known of a buffer once text is written to it: what is there is determined, text after text is the text of
 -- both, and where there is room it stands at its place. Assumes nothing.
 use mathlib.Core.Path.{◌≡◌, refl, ap, sym, ◌∙◌}
-use mathlib.Core.List.{List, [], ◌∷◌, ◌++◌, foldl-append}
+use mathlib.Core.List.{List, [], ◌∷◌, ◌++◌, append_assoc, foldl-append}
 use Prim.Native.Nat.{ℕ, suc, ◌+◌, ◌<◌, ◌≤◌}
 use native.Mathlib.Nat.{add-zero, add-suc, suc-add, le_trans, le-add_right}
 use native.Mathlib.Numerals.{add-one}
@@ -10,7 +10,8 @@ use borrow.Author.Tests.{lt-ltb, ltb-true}
 use native.Mathlib.Omega.{arith}
 use lib.Dec.{ltb}
 use lib.ListN.{length, get_or, take, drop, set, length-set}
-use lib.Seq.{take-suc, sets, sets-eq}
+use lib.Seq.{take-suc, sets, sets-eq, drop-drop}
+use borrow.Rule.Slice.PartMut.{put_mid}
 use Rattle.text.specs.declared.Cursor.{Cursor}
 use Rattle.text.specs.Text.{Page, page, put, write, Writes}
 
@@ -72,6 +73,16 @@ stores (b ∷ text) held at h =
 pub with-room : (held text : List ℕ) (at : ℕ) → at + length text ≤ length held
     → write (page held at) text ≡ page (take at held ++ text ++ drop (at + length text) held) (at + length text)
 with-room held text at h = stores text held at h ∙ ap (λ l. page l (at + length text)) (sets-eq text held at h)
+
+-- so a copy of the whole text to its place writes it
+pub copied : (held : List ℕ) (at : ℕ) {text now : List ℕ} {k : ℕ} → now ≡ text → k ≡ length text
+    → at + length text ≤ length held → page (put_mid at k held now) (at + length text) ≡ write (page held at) text
+copied held at {text} {now} {k} e size room =
+    let end = at + length text in
+    let behind = drop-drop (length text) at held in
+    let whole = ap (λ l. take at held ++ (text ++ l)) behind ∙ sym (append_assoc (take at held) text _) in
+    ap (λ l. page (put_mid at k held l) end) e ∙ ap (λ j. page (put_mid at j held text) end) size
+    ∙ ap (λ l. page l end) whole ∙ sym (with-room held text at room)
 
 -- ---- the place stays within the buffer
 

@@ -61,10 +61,17 @@ impl Cursor<'_> {
         }
     }
 
-    // The bytes of w, one after the other.
+    // The bytes of w, one after the other. Where all have room they go in one piece: byte by byte the place, which lies
+    // in memory, would be read and written for each.
     pub fn word(&mut self, w: &[u8])
         ensures { Writes self.old w.now self.new }
     {
+        let (at, n) = (self.at, w.len());
+        if at <= self.buffer.len() && n <= self.buffer.len() - at {
+            self.buffer[at..at + n].copy_from_slice(w);
+            self.at = at + n;
+            return;
+        }
         for b in w {
             self.byte(*b);
         }

@@ -38,10 +38,13 @@ pub fn quad(s: &[u8]) -> u32
     u32::from_be_bytes(array::from_fn(|i| byte(s, i)))
 }
 
-// The number in the first eight bytes.
+// The number in the first eight bytes. Where all eight are there none is looked for by itself: floats are read here.
 pub fn word(s: &[u8]) -> u64
     ensures { result ≡ word_of s.now }
 {
+    if let Some(whole) = s.first_chunk::<8>() {
+        return u64::from_be_bytes(*whole);
+    }
     u64::from_be_bytes(array::from_fn(|i| byte(s, i)))
 }
 
