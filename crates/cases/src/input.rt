@@ -38,7 +38,9 @@ fn place(b: u64, p: usize) -> u64 {
 
 impl<'a> Window<'a> {
     // Nothing is in memory yet.
-    pub(crate) fn new(buffer: &'a mut [u8]) -> Window<'a> {
+    pub(crate) fn new(buffer: &'a mut [u8]) -> Window<'a>
+        ensures { (result.from ≡ 0) × (result.to ≡ 0) }
+    {
         Window {
             buffer,
             base: 0,
