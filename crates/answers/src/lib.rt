@@ -31,7 +31,11 @@ pub fn number(x: f64) -> Option<u32>
     ensures { result ≡ search_named x }
 {
     let n = saturating_f64_to_u32(x);
-    (n < 32 && x == f64::from(n)).then_some(n)
+    if n < 32 && x == f64::from(n) {
+        Some(n)
+    } else {
+        None
+    }
 }
 
 // Whether the list may be given to n searches, of which there are never more than 32: looks at all of it, and gives

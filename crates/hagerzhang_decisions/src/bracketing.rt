@@ -79,6 +79,7 @@ fn near(c: f64, before: Point, behind: Point) -> Option<f64>
 
 // "S4: if either held, ask e and update (A, Z) with it." "S2: if |c.x - Z.x| < EPS, e = secant(b, Z)"; "S3: if |c.x -
 // A.x| < EPS, e = secant(a, A), overwriting S2's"; where S3 gives none, "An earlier e then stays" (02, request 4).
+#[tactic(auto, using(crate::proofs::Overwriting::overwrites))]
 pub fn s4(w: Bracket, c: f64, u: Bracket) -> Option<f64>
     ensures { result ≡ S4 w c u }
 {

@@ -2,6 +2,7 @@
 -- nothing.
 use Rattle.std.proofs.Common.{◌≡◌, ◌∙◌, ◌%◌, length, sym, rules, arith}
 use Rattle.std.proofs.lemmas.Iterator.{YieldsList-from_slice}
+use Rattle.std.proofs.lemmas.List.{take_all}
 use Rattle.std.proofs.lemmas.Iterator.Search.{all_from_yields_List}
 use Rattle.floats.proofs.Branches.{tests}
 use Rattle.answers.specs.Answers.{answers_in, size_of, all_named}
@@ -17,7 +18,7 @@ looked-at c =
     let left = c.as_chunks.ensures.back_len in (
       omega arith,
       all_from_yields_List (names_below (size_of c.args.n)) _ _ _ c.all-named.ensures.ran
-          (YieldsList-from_slice _ (c.iter.ensures.rest ∙ c.as_chunks.ensures.front))
+          (YieldsList-from_slice _ (search (rules, take_all)))
           (λ x b q k. (search (rules, tests), is-below c.args.n _ b (search (rules, tests))))
           ∙ named-in-chunks _ c.args.list.now,
     )

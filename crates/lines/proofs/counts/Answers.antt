@@ -5,5 +5,6 @@ use Rattle.lines.proofs.counts.Goals as goal
 
 pub returns : goal.returns
 returns c =
-    rw (append_assoc, append_assoc, ← c.from.ensures, ← c.from-2.ensures)
-    (then _ _ (then _ _ c.word.ensures c.decimal.ensures) c.number_line.ensures)
+    let first = rw c.from.ensures at c.decimal.ensures in
+    let second = rw c.from-2.ensures at c.number_line.ensures in
+    rw (append_assoc, append_assoc) (then _ _ (then _ _ c.word.ensures first) second)
