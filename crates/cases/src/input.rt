@@ -1,6 +1,6 @@
 // The input, of which a part is in memory.
 
-ghost use Rattle.std.specs.Prelude.{◌≡◌, ◌≤◌, ◌-◌, length};
+ghost use Rattle.std.specs.Prelude.{◌≡◌, ◌≤◌, ◌-◌, false, length};
 
 use std::io::Read;
 use streams::Lost;
@@ -39,7 +39,7 @@ fn place(b: u64, p: usize) -> u64 {
 impl<'a> Window<'a> {
     // Nothing is in memory yet.
     pub(crate) fn new(buffer: &'a mut [u8]) -> Window<'a>
-        ensures { (result.from ≡ 0) × (result.to ≡ 0) }
+        ensures { (result.base ≡ 0) × (result.from ≡ 0) × (result.to ≡ 0) × (result.ended ≡ false) }
     {
         Window {
             buffer,

@@ -38,7 +38,8 @@ pub fn quad(s: &[u8]) -> u32
     u32::from_be_bytes(array::from_fn(|i| byte(s, i)))
 }
 
-// The number in the first eight bytes. Where all eight are there none is looked for by itself: floats are read here.
+// The number in the first eight bytes, which are read at once where all are there: each float of a job or a case is one
+// such number.
 pub fn word(s: &[u8]) -> u64
     ensures { result ≡ word_of s.now }
 {

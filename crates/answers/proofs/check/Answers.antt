@@ -1,4 +1,5 @@
--- `answers::check` meets its contract: the list's whole answers are its arrays of three, and each is looked at. Assumes
+-- `answers::check` meets its contract: the list's whole answers are its arrays of three, and each is looked at. That
+-- these are what is looked through is found by rules, so that a part of them is refused for what it leaves out. Assumes
 -- nothing.
 use Rattle.std.proofs.Common.{◌≡◌, ◌∙◌, ◌%◌, length, sym, rules, arith}
 use Rattle.std.proofs.lemmas.Iterator.{YieldsList-from_slice}
